@@ -1,4 +1,4 @@
 pub mod AdmissionLemmas
 pub mod OrderLemmas
 pub mod StepLemmas
-pub mod ManyLemmas
+pub mod BodyLemmas

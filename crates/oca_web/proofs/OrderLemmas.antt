@@ -7,8 +7,8 @@ use Rattle.std.proofs.lemmas.List.Quantifiers.{position-Some}
 use Rattle.oca_web.specs.declared.order.NotDone.{NotDone}
 use Rattle.oca_web.specs.declared.order.Order.{Order}
 use Rattle.oca_web.specs.declared.order.OrderResult.{OrderResult}
-use Rattle.oca_web.specs.declared.order.Sent.{Sent}
-use Rattle.oca_web.specs.declared.order.Wanted.{Wanted}
+use Rattle.oca_web.specs.declared.order.OrderInFlight.{OrderInFlight}
+use Rattle.oca_web.specs.declared.order.NewOrder.{NewOrder}
 use Rattle.oca_web.specs.Orders.{OrdersState, ready_of, is_in_flight, lost_result, order_added, result_of, with_all, with_lost, with_order}
 use Rattle.oca_web.specs.Orders.{with_result, with_unsent}
 
@@ -21,7 +21,7 @@ full-not true n e h = cc h
 full-not false n e h = let k : (32 == 32) ≡ false = rw e at h in cc k
 
 -- it is the first that waits
-pub ready_is_first : (ws : List Order) (ss : List Sent) (o : Order) (rest : List Order) → ready_of ws ss ≡ Some o → rest ≡ remove ws 0 → ws ≡ o ∷ rest
+pub ready_is_first : (ws : List Order) (ss : List OrderInFlight) (o : Order) (rest : List Order) → ready_of ws ss ≡ Some o → rest ≡ remove ws 0 → ws ≡ o ∷ rest
 ready_is_first [] ss o rest e r = absurd (cc e)
 ready_is_first (w ∷ ws) ss o rest e r =
     let p : ((is_in_flight w.ono.0 ss || (length ss == 32)) ≡ false) × (w ≡ o) = pick (is_in_flight w.ono.0 ss || (length ss == 32)) w o e in
@@ -29,7 +29,7 @@ ready_is_first (w ∷ ws) ss o rest e r =
     rw (p.1, q) refl
 
 -- fewer than 32 are in flight
-pub ready_has_room : (ws : List Order) (ss : List Sent) (o : Order) → ready_of ws ss ≡ Some o → length ss ≢ 32
+pub ready_has_room : (ws : List Order) (ss : List OrderInFlight) (o : Order) → ready_of ws ss ≡ Some o → length ss ≢ 32
 ready_has_room [] ss o e full = cc e
 ready_has_room (w ∷ ws) ss o e full =
     let p : ((is_in_flight w.ono.0 ss || (length ss == 32)) ≡ false) × (w ≡ o) = pick (is_in_flight w.ono.0 ss || (length ss == 32)) w o e in
@@ -44,7 +44,7 @@ first_and_rest (y ∷ ys) x rest e r =
     rw (p, q) refl
 
 -- what was taken from the front is the order that is next
-pub taken_first : (v ws : List Order) (ss : List Sent) (o : Order) (rest : List Order) (r : Option Order)
+pub taken_first : (v ws : List Order) (ss : List OrderInFlight) (o : Order) (rest : List Order) (r : Option Order)
     → v ≡ ws → ready_of v ss ≡ Some o → r ≡ slice_get ws 0 → OnSome r (rest ≡ remove ws 0) → v ≡ o ∷ rest
 taken_first v [] ss o rest r same e is h = let k : ready_of [] ss ≡ Some o = rw same at e in absurd (cc k)
 taken_first v (w ∷ ws) ss o rest None same e is h = absurd (cc is)
@@ -59,12 +59,12 @@ placed_within p [] (Some at) e = absurd (cc e)
 placed_within p (x ∷ xs) (Some at) e = (position-Some p (x ∷ xs) at x (sym e)).0
 
 -- many orders are added one after another: with those from this one on, those so far are all
-pub record AddedSoFar (ws : List Wanted) (last i : ℕ) (old s : OrdersState) : Type 0 where
+pub record AddedSoFar (ws : List NewOrder) (last i : ℕ) (old s : OrdersState) : Type 0 where
   pub room : length s.waiting + length ws ≤ 256 + i
   pub tickets : s.tickets + length ws ≤ 18446744073709551615 + i
   pub rest : with_all (drop i ws) last s ≡ with_all ws last old
 
-pub added_more : (ws : List Wanted) (i : ℕ) (w : Wanted) (last : ℕ) (old s t : OrdersState) → AddedSoFar ws last i old s → i < length ws
+pub added_more : (ws : List NewOrder) (i : ℕ) (w : NewOrder) (last : ℕ) (old s t : OrdersState) → AddedSoFar ws last i old s → i < length ws
     → w ≡ get_or ws i w → t ≡ with_order w last s → AddedSoFar ws last (i + 1) old t
 added_more ws i w last old s t before within e f =
     let n : length t.waiting ≡ length s.waiting + 1 = ap (λ (o : OrdersState). length o.waiting) f ∙ length-append s.waiting (order_added w last s ∷ []) in
@@ -76,17 +76,17 @@ added_more ws i w last old s t before within e f =
       rest = ap (λ o. with_all (drop (i + 1) ws) last o) f ∙ ap (λ l. with_all l last s) (sym p) ∙ before.rest;
     }
 
-pub added_all : (ws : List Wanted) (i last : ℕ) (old s : OrdersState) → AddedSoFar ws last i old s → length ws ≤ i → s ≡ with_all ws last old
+pub added_all : (ws : List NewOrder) (i last : ℕ) (old s : OrdersState) → AddedSoFar ws last i old s → length ws ≤ i → s ≡ with_all ws last old
 added_all ws i last old s before past = ap (λ l. with_all l last s) (sym (drop_all i ws past)) ∙ before.rest
 
 pub ruleset many_rules = (added_more, added_all)
 
 -- orders are noted as lost one after another
-pub lost_first : (sent : List Sent) (s : Sent) (rest : List Sent) (results new : List OrderResult) → slice_get sent 0 ≡ Some s → rest ≡ remove sent 0
+pub lost_first : (sent : List OrderInFlight) (s : OrderInFlight) (rest : List OrderInFlight) (results new : List OrderResult) → slice_get sent 0 ≡ Some s → rest ≡ remove sent 0
     → new ≡ with_result results (lost_result s) → with_lost rest new ≡ with_lost sent results
 lost_first sent s rest results new e r f = rw (first_and_rest sent s rest e r, f) refl
 
-pub lost_none : (sent : List Sent) (results : List OrderResult) → None ≡ slice_get sent 0 → results ≡ with_lost sent results
+pub lost_none : (sent : List OrderInFlight) (results : List OrderResult) → None ≡ slice_get sent 0 → results ≡ with_lost sent results
 lost_none [] results e = refl
 lost_none (s ∷ sent) results e = absurd (cc e)
 

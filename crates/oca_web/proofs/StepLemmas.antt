@@ -6,12 +6,13 @@ use Rattle.oca_types.specs.declared.words.Handle.{Handle}
 use Rattle.oca_control.specs.declared.outcome.Outcome.{Outcome}
 use Rattle.oca_panel.specs.declared.trouble.Trouble.{Trouble}
 use Rattle.oca_panel.specs.Panels.{PanelState, MaySettle}
-use Rattle.oca_web.specs.declared.ask.Ask.{Ask}
+use Rattle.oca_web.specs.declared.question.Property.{Property}
 use Rattle.oca_web.specs.declared.object.Object.{Object}
 use Rattle.oca_web.specs.declared.order.NotDone.{NotDone}
 use Rattle.oca_web.specs.declared.order.Order.{Order}
-use Rattle.oca_web.specs.declared.order.Sent.{Sent}
-use Rattle.oca_web.specs.declared.view.Reach.{Reach}
+use Rattle.oca_web.specs.declared.orders.SettledOrder.{SettledOrder}
+use Rattle.oca_types.specs.declared.words.Peer.{Peer}
+use Rattle.oca_types.specs.declared.sizes.Span.{Span}
 use Rattle.oca_web.specs.Asking.{AsksOne}
 use Rattle.oca_web.specs.Views.{AsksQuestions, NoneAsked, OneAsked, TakesAnswers, NoneTaken, OneTaken}
 use Rattle.oca_web.specs.Views.{Continues, RenewsLost, TurnsAndSettles, TurnsPanel}
@@ -34,9 +35,9 @@ pub ruleset submit_rules = (none_submitted, one_submitted)
 pub none_settles : (s t : OrdersState) (p q : PanelState) → t ≡ s → q ≡ p → Steps SettlesOne s p t q
 none_settles s t p q e f = rw (e, f) NoStep
 
-pub one_settles : (at : ℕ) (o : Option (Sent × Result Unit Trouble)) (s t u : OrdersState) (p q r : PanelState)
+pub one_settles : (at : ℕ) (o : Option SettledOrder) (s t u : OrdersState) (p q r : PanelState)
     → Steps SettlesOne s p t q → SettlesAt at o t q u r → Steps SettlesOne s p u r
-one_settles at (Some one) s t u p q r steps h = OneMore steps (at, one.0, one.1, h)
+one_settles at (Some one) s t u p q r steps h = OneMore steps (at, one.sent, one.done, h)
 one_settles at None s t u p q r steps h = rw (h.0, h.1) steps
 
 pub ruleset settle_rules = (none_settles, one_settles)
@@ -69,7 +70,7 @@ pub ruleset answer_rules = (takes_none, takes_one, takes_on)
 pub asks_none : (p q : PanelState) → q ≡ p → AsksQuestions p q
 asks_none p q e = rw e NoneAsked
 
-pub asks_one : (ono : ℕ) (of : Option Class) (ask : Ask) (h : Option Handle) (p q : PanelState) → AsksOne ono of ask h p q → AsksQuestions p q
+pub asks_one : (ono : ℕ) (of : Option Class) (ask : Property) (h : Option Handle) (p q : PanelState) → AsksOne ono of ask h p q → AsksQuestions p q
 asks_one ono of ask (Some handle) p q h = OneAsked ono of ask handle NoneAsked h
 asks_one ono of ask None p q h = rw h NoneAsked
 
@@ -93,10 +94,10 @@ turned_and_settled a b c d p q r s turns e settles answers f = record {
 
 pub ruleset turn_rules = (takes_none, turned_and_settled)
 
-pub continues : (reach : Reach) (next ahead found : ℕ) (known list : List Object) (a b c d e : OrdersState) (p q r s : PanelState)
-    → RenewsLost reach next a p b q → EndsUnsent b c → SubmitsOrders found list c q d r → AsksQuestions r s → found ≡ ahead → list ≡ known
-    → e ≡ d → Continues reach next ahead known a p e s
-continues reach next ahead found known list a b c d e p q r s renews ends submits asks f k g = record {
+pub continues : (device : Peer) (span : Span) (next ahead found : ℕ) (known list : List Object) (a b c d e : OrdersState) (p q r s : PanelState)
+    → RenewsLost device span next a p b q → EndsUnsent b c → SubmitsOrders found list c q d r → AsksQuestions r s → found ≡ ahead → list ≡ known
+    → e ≡ d → Continues device span next ahead known a p e s
+continues device span next ahead found known list a b c d e p q r s renews ends submits asks f k g = record {
   lost = b;
   renewed = q;
   ended = c;

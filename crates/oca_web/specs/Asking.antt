@@ -7,19 +7,19 @@ use Rattle.oca_model.specs.declared.request.Request.TheVariants as requests
 use Rattle.oca_types.specs.declared.words.Handle.{Handle}
 use Rattle.oca_panel.specs.Panels.{PanelState}
 use Rattle.oca_panel.specs.Beginnings.{BeginsAsking}
-use Rattle.oca_web.specs.declared.ask.Ask.{Ask}
-use Rattle.oca_web.specs.declared.ask.Ask.TheVariants as asks
+use Rattle.oca_web.specs.declared.question.Property.{Property}
+use Rattle.oca_web.specs.declared.question.Property.TheVariants as asks
 
 -- what is asked: nothing that sets
-abbrev pub request_of_ask : Ask → Request
-request_of_ask asks.Members = requests.GetMembers
-request_of_ask asks.Role = requests.GetRole
-request_of_ask asks.Label = requests.GetLabel
-request_of_ask asks.Lockable = requests.GetLockable
-request_of_ask asks.Enabled = requests.GetEnabled
-request_of_ask asks.Names = requests.GetPositionNames
-request_of_ask asks.Flags = requests.GetPositionEnableds
-request_of_ask asks.Value = requests.Get
+abbrev pub request_for : Property → Request
+request_for asks.Members = requests.GetMembers
+request_for asks.Role = requests.GetRole
+request_for asks.Label = requests.GetLabel
+request_for asks.Lockable = requests.GetLockable
+request_for asks.Enabled = requests.GetEnabled
+request_for asks.Names = requests.GetPositionNames
+request_for asks.Flags = requests.GetPositionEnableds
+request_for asks.Value = requests.Get
 
 -- the class by whose methods an object is asked
 abbrev pub class_for : Option Class → Class
@@ -27,6 +27,6 @@ class_for None = class.Block
 class_for (Some of) = of
 
 -- ONE QUESTION WAS ASKED, where the link took it; else nothing was.
-abbrev pub AsksOne : ℕ → Option Class → Ask → Option Handle → PanelState → PanelState → Type 0
-AsksOne ono of ask (Some handle) old new = BeginsAsking ono (class_for of) (request_of_ask ask) (Ok handle) old new
+abbrev pub AsksOne : ℕ → Option Class → Property → Option Handle → PanelState → PanelState → Type 0
+AsksOne ono of ask (Some handle) old new = BeginsAsking ono (class_for of) (request_for ask) (Ok handle) old new
 AsksOne ono of ask None old new = new ≡ old

@@ -11,8 +11,8 @@ use Rattle.oca_web.specs.Labels.{is_label, label_bytes}
 use Rattle.oca_web.specs.declared.order.Label.{Label}
 use Rattle.oca_web.specs.declared.order.Action.{Action}
 use Rattle.oca_web.specs.declared.order.Action.TheVariants as actions
-use Rattle.oca_web.specs.declared.order.Read.{Read}
-use Rattle.oca_web.specs.declared.order.Wanted.{Wanted}
+use Rattle.oca_web.specs.declared.order.Identity.{Identity}
+use Rattle.oca_web.specs.declared.order.NewOrder.{NewOrder}
 
 -- the number of the object
 abbrev pub ono_in : Data → Option ℕ
@@ -55,19 +55,19 @@ IsGivenOrEmpty None label = label_bytes label ≡ []
 IsGivenOrEmpty (Some text) label = label_bytes label ≡ text
 
 -- WHAT THE PAGE SHOWED of the object, as one of many says
-pub record IsReadIn (d : Data) (r : Read) : Type 0 where
+pub record IsIdentityIn (d : Data) (r : Identity) : Type 0 where
   pub role : IsGivenAs (option_and_then as_str (get (codes "role") d)) r.role
   pub block : IsGivenAs (option_and_then as_str (get (codes "block") d)) r.block
   pub position : IsGivenOrEmpty (option_and_then as_str (get (codes "name") d)) r.position
 
 -- one of many, of the object that it names and that the page showed
-pub record IsWanted (d : Data) (w : Wanted) : Type 0 where
+pub record IsWanted (d : Data) (w : NewOrder) : Type 0 where
   pub object : ono_in d ≡ Some w.ono.0
-  pub read : IsReadIn d w.read
+  pub read : IsIdentityIn d w.identity
   pub action : IsActionIn d w.action
 
 -- all of many, in their order
-unfoldable pub AreWanted : Items → List Wanted → Type 0
+unfoldable pub AreWanted : Items → List NewOrder → Type 0
 AreWanted no_items [] = Unit {0}
 AreWanted no_items (w ∷ ws) = ⊥
 AreWanted (item d ds) [] = ⊥
@@ -78,7 +78,7 @@ abbrev pub NamesThis : ℕ → Data → Type 0
 NamesThis run d = (named : List ℕ) × (run_in d ≡ Some named) × (bytes_eq (decimal run) named ≡ true)
 
 -- the orders that a value says
-pub record AreOrdersOf (run : ℕ) (parsed : Data) (ws : List Wanted) (given : Option ℕ) : Type 0 where
+pub record AreOrdersOf (run : ℕ) (parsed : Data) (ws : List NewOrder) (given : Option ℕ) : Type 0 where
   pub this_run : NamesThis run parsed
   pub items : Items
   pub list : option_and_then as_array (get (codes "orders") parsed) ≡ Some items
@@ -87,7 +87,7 @@ pub record AreOrdersOf (run : ℕ) (parsed : Data) (ws : List Wanted) (given : O
 
 -- THE ORDERS ARE THOSE THAT THE BODY SAYS, all of them in their order, with the last moment that it gives, where it
 -- gives one; it names this very run.
-pub record AreOrdersIn (run : ℕ) (body : List ℕ) (ws : List Wanted) (given : Option ℕ) : Type 0 where
+pub record AreOrdersIn (run : ℕ) (body : List ℕ) (ws : List NewOrder) (given : Option ℕ) : Type 0 where
   pub parsed : Data
   pub text : read body ≡ Some parsed
   pub orders : AreOrdersOf run parsed ws given

@@ -24,17 +24,18 @@ use Rattle.oca_web.specs.declared.order.Action.TheVariants as actions
 use Rattle.oca_web.specs.declared.order.NotDone.{NotDone}
 use Rattle.oca_web.specs.declared.order.NotDone.TheVariants as why
 use Rattle.oca_web.specs.declared.order.Order.{Order}
-use Rattle.oca_web.specs.declared.order.Wanted.{Wanted}
-use Rattle.oca_web.specs.declared.order.Sent.{Sent}
+use Rattle.oca_web.specs.declared.order.NewOrder.{NewOrder}
+use Rattle.oca_web.specs.declared.order.OrderInFlight.{OrderInFlight}
 use Rattle.oca_web.specs.declared.order.OrderResult.{OrderResult}
+use Rattle.oca_web.specs.declared.orders.SettledOrder.{SettledOrder}
 use Rattle.oca_web.specs.declared.object.Object.{Object}
-use Rattle.oca_web.specs.Known.{is_read}
+use Rattle.oca_web.specs.Known.{is_confirmed}
 
 -- The orders that wait, the first that came first; those in flight under their handles; how the last ones ended, by
 -- their tickets; and the ticket of the last order.
 pub record OrdersState : Type 0 where
   pub waiting : List Order
-  pub in_flight : List Sent
+  pub in_flight : List OrderInFlight
   pub results : List OrderResult
   pub tickets : ℕ
 
@@ -65,17 +66,17 @@ AsksOrdered (actions.Rename label) request = (text : List ℕ) × (request ≡ r
 
 -- ONE ORDER WAS ADDED, behind all others, with the moment after which it must not be submitted, and a ticket of its
 -- own: one more than that of the order before it.
-abbrev pub order_added : Wanted → ℕ → OrdersState → Order
-order_added w last s = record { ticket = s.tickets + 1; ono = w.ono; read = w.read; action = w.action; last = last }
+abbrev pub order_added : NewOrder → ℕ → OrdersState → Order
+order_added w last s = record { ticket = s.tickets + 1; ono = w.ono; identity = w.identity; action = w.action; last = last }
 
-abbrev pub with_order : Wanted → ℕ → OrdersState → OrdersState
+abbrev pub with_order : NewOrder → ℕ → OrdersState → OrdersState
 with_order w last s = record s {
   waiting = s.waiting ++ order_added w last s ∷ [];
   tickets = s.tickets + 1;
 }
 
 -- MANY ORDERS WERE ADDED, in their order, each with the same last moment and a ticket of its own.
-abbrev pub with_all : List Wanted → ℕ → OrdersState → OrdersState
+abbrev pub with_all : List NewOrder → ℕ → OrdersState → OrdersState
 with_all [] last s = s
 with_all (w ∷ ws) last s = with_all ws last (with_order w last s)
 
@@ -85,7 +86,7 @@ has_room_for n s = nat_le (length s.waiting + n) 256 && nat_lt (s.tickets + n) l
 
 -- Where there was room for all of them they were, and this is the ticket of the first; the others have those that
 -- follow. Where there was not, none was.
-abbrev pub AddsAll : List Wanted → ℕ → OrdersState → Option ℕ → OrdersState → Type 0
+abbrev pub AddsAll : List NewOrder → ℕ → OrdersState → Option ℕ → OrdersState → Type 0
 AddsAll ws last old (Some first) new = (has_room_for (length ws) old ≡ true) × (first ≡ old.tickets + 1)
     × (new ≡ with_all ws last old)
 AddsAll ws last old None new = (has_room_for (length ws) old ≡ false) × (new ≡ old)
@@ -93,11 +94,11 @@ AddsAll ws last old None new = (has_room_for (length ws) old ≡ false) × (new 
 -- ---- an order is submitted
 
 -- an order of this object is in flight
-abbrev pub is_in_flight : ℕ → List Sent → Bool
+abbrev pub is_in_flight : ℕ → List OrderInFlight → Bool
 is_in_flight ono sent = list_any (λ s. s.order.ono.0 == ono) sent
 
 -- THE ORDER THAT IS SUBMITTED NEXT is the first that waits, unless one of its object is in flight, or 32 are.
-abbrev pub ready_of : List Order → List Sent → Option Order
+abbrev pub ready_of : List Order → List OrderInFlight → Option Order
 ready_of [] sent = None
 ready_of (o ∷ os) sent = if is_in_flight o.ono.0 sent || (length sent == 32) then None else Some o
 
@@ -116,7 +117,7 @@ pub record SubmitsOrder (ahead : ℕ) (known : List Object) (old : OrdersState) 
     pub now : ℕ
     pub present : IsPresent now before.end_state
     pub in_time : ahead + now ≤ order.last
-    pub read : is_read (ahead + now) order known ≡ true
+    pub confirmed : is_confirmed (ahead + now) order known ≡ true
     pub request : Request
     pub is_for : AsksOrdered order.action request
     pub asks : BeginsAsking order.ono.0 (class_asked order.action) request (Ok handle) before after
@@ -151,7 +152,7 @@ result_of order done = record { ticket = order.ticket; ono = order.ono; done = d
 
 -- AN ORDER IN FLIGHT CAME OUT SO, under its ticket: as the answer says that the link held under its handle, or
 -- as lost where the link is lost and holds none.
-pub record SettlesOrder (at : ℕ) (sent : Sent) (done : Result Unit Trouble) (old : OrdersState) (before : PanelState)
+pub record SettlesOrder (at : ℕ) (sent : OrderInFlight) (done : Result Unit Trouble) (old : OrdersState) (before : PanelState)
     (new : OrdersState) (after : PanelState) : Type 0 where
   pub stood : slice_get old.in_flight at ≡ Some sent
   pub outcome : Outcome
@@ -163,21 +164,20 @@ pub record SettlesOrder (at : ℕ) (sent : Sent) (done : Result Unit Trouble) (o
         (result_of sent.order (not_done done));
   }
 
-abbrev pub SettlesAt : ℕ → Option (Sent × Result Unit Trouble) → OrdersState → PanelState → OrdersState → PanelState
-    → Type 0
-SettlesAt at (Some settled) old before new after = SettlesOrder at settled.0 settled.1 old before new after
+abbrev pub SettlesAt : ℕ → Option SettledOrder → OrdersState → PanelState → OrdersState → PanelState → Type 0
+SettlesAt at (Some settled) old before new after = SettlesOrder at settled.sent settled.done old before new after
 SettlesAt at None old before new after = (new ≡ old) × (after ≡ before)
 
 -- ---- the link is lost
 
-abbrev pub lost_result : Sent → OrderResult
+abbrev pub lost_result : OrderInFlight → OrderResult
 lost_result sent = result_of sent.order (Err (why.Trouble trouble.Lost))
 
 -- it was never sent, since the link was lost
 abbrev pub link_was_lost : NotDone
 link_was_lost = why.Trouble (trouble.NotSubmitted faults.Lost)
 
-abbrev pub with_lost : List Sent → List OrderResult → List OrderResult
+abbrev pub with_lost : List OrderInFlight → List OrderResult → List OrderResult
 with_lost [] results = results
 with_lost (s ∷ sent) results = with_lost sent (with_result results (lost_result s))
 
@@ -237,7 +237,7 @@ SubmitsOrders ahead known = Steps (SubmitsOrder ahead known)
 
 -- WHAT TICKETS WERE TOLD: of one order after another, how it came out.
 abbrev pub SettlesOne : OrdersState → PanelState → OrdersState → PanelState → Type 0
-SettlesOne old before new after = (at : ℕ) × (sent : Sent) × (done : Result Unit Trouble)
+SettlesOne old before new after = (at : ℕ) × (sent : OrderInFlight) × (done : Result Unit Trouble)
     × SettlesOrder at sent done old before new after
 
 abbrev pub SettlesOrders : OrdersState → PanelState → OrdersState → PanelState → Type 0

@@ -6,7 +6,7 @@ use Rattle.http.specs.Request.{head_of}
 use Rattle.http_uri.specs.Uri.{uri_path}
 use Rattle.http_server.specs.declared.response.Response.{Response}
 use Rattle.oca_net.specs.Ends.{last_u64}
-use Rattle.oca_web.specs.declared.order.Wanted.{Wanted}
+use Rattle.oca_web.specs.declared.order.NewOrder.{NewOrder}
 use Rattle.oca_web.specs.declared.site.Site.{Site}
 use Rattle.oca_web.specs.Admission.{admits_request, is_post}
 use Rattle.oca_web.specs.Bodies.{AreOrdersIn}
@@ -28,9 +28,9 @@ pub record KeepsAll (old new : Site) : Type 0 where
   pub terms : new.terms ≡ old.terms
 
 -- THESE ORDERS WERE ADDED, all of them, and answered with the status 202.
-pub record AddsOrders (ws : List Wanted) (given : Option ℕ) (old : Site) (code : ℕ) (new : Site) : Type 0 where
+pub record AddsOrders (ws : List NewOrder) (given : Option ℕ) (old : Site) (code : ℕ) (new : Site) : Type 0 where
   pub status : code ≡ 202
-  pub orders : new.view.orders ≡ with_all ws (last_moment_for old.view.news.now given old.doubts) old.view.orders
+  pub orders : new.view.orders ≡ with_all ws (last_moment_for old.view.link.now given old.doubts) old.view.orders
   pub terms : new.terms ≡ old.terms
 
 -- none was, and the status is another one
@@ -39,13 +39,13 @@ pub record AddsNone (old : Site) (code : ℕ) (new : Site) : Type 0 where
   pub keeps : KeepsAll old new
 
 -- all of many were added, or none was
-abbrev pub TakesOrders : Result ℕ AllocError → List Wanted → Option ℕ → Site → Site → Type 0
+abbrev pub TakesOrders : Result ℕ AllocError → List NewOrder → Option ℕ → Site → Site → Type 0
 TakesOrders (Ok code) ws given old new = AddsOrders ws given old code new ⊎ AddsNone old code new
 TakesOrders (Err e) ws given old new = KeepsAll old new
 
 -- all those were added for which the body asks
 abbrev pub AddsIn : List ℕ → Site → ℕ → Site → Type 0
-AddsIn body old code new = (ws : List Wanted) × (given : Option ℕ) × AreOrdersIn old.terms.run body ws given
+AddsIn body old code new = (ws : List NewOrder) × (given : Option ℕ) × AreOrdersIn old.terms.run body ws given
     × AddsOrders ws given old code new
 
 -- a site that takes orders added them

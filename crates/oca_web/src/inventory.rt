@@ -1,8 +1,12 @@
 //! What is known of a device, and which questions about it wait or are in flight.
-use crate::ask::{Ask, Asked, HOW, Poll, Question, WHAT, class_for};
-use crate::object::{Object, Objects, counts, names_it, refused_behind};
+use crate::object::{Object, Objects, counts_for, names_it, refusal_for};
 use crate::order::{Action, NotDone, Order};
-use crate::orders::Settled;
+use crate::orders::SettledOrder;
+use crate::poll::Poll;
+use crate::question::{
+    MOST_QUESTIONS, PendingQuestion, Property, Question, STATE_PROPERTIES, WALK_PROPERTIES,
+    class_for,
+};
 use arrayvec::ArrayVec;
 use oca_model::{Answer, Member, Value};
 use oca_net::End;
@@ -20,8 +24,8 @@ struct Listed {
     members: Vec<Member>,
 }
 
-/// A silence of the device that is longer, in milliseconds, while a question waits for its answer: the device may be
-/// another one behind it.
+/// If a question waits for its answer and the device is silent for longer, in milliseconds, the device may be another
+/// one when it answers again.
 const LONGEST_SILENCE_MS: u64 = 500;
 
 /// What is known of a device, and which questions are asked of it.
@@ -37,7 +41,7 @@ pub struct Inventory {
     objects: Objects,
     walk: Walk,
     waiting: VecDeque<Question>,
-    asked: ArrayVec<Asked, 32>,
+    pending: ArrayVec<PendingQuestion, MOST_QUESTIONS>,
     lists: Vec<Listed>,
     poll: Poll,
     epoch: u64,
@@ -46,16 +50,16 @@ pub struct Inventory {
     /// Whether the link was lost since questions were submitted last.
     is_lost: bool,
     /// What was asked before this moment may have been answered by another device.
-    doubted: u64,
-    /// Whether all roles, labels and names of positions are to be read again.
-    is_doubted: bool,
-    /// Whether the question before was a reading of a round.
-    was_read: bool,
+    doubted_until: u64,
+    /// Whether all roles, labels and names of positions must be read again.
+    rereads_names: bool,
+    /// Whether the last question belonged to a round.
+    was_of_round: bool,
 }
 
 impl Inventory {
     ghost use Rattle.std.specs.Prelude.{◌≡◌, slice_get, true};
-    ghost use Rattle.oca_web.specs.Known.{KeepsAsked};
+    ghost use Rattle.oca_web.specs.Known.{KeepsQuestion};
     ghost use Rattle.oca_web.specs.Views.{TakesAnswerOf, TakesAnswers};
 
     /// Returns an inventory of a device of which nothing is known, with a walk that begins at the root. `now` is the
@@ -66,16 +70,16 @@ impl Inventory {
             objects: Objects::new(alloc),
             walk: Walk::new(alloc)?,
             waiting: VecDeque::new(alloc),
-            asked: ArrayVec::new(),
+            pending: ArrayVec::new(),
             lists: Vec::new(alloc),
             poll: Poll::new(now),
             epoch: 0,
             walked: false,
             is_stale: false,
             is_lost: false,
-            doubted: 0,
-            is_doubted: false,
-            was_read: false,
+            doubted_until: 0,
+            rereads_names: false,
+            was_of_round: false,
         };
         inventory.begin_anew()?;
         Ok(inventory)
@@ -99,35 +103,48 @@ impl Inventory {
         Ok(())
     }
 
-    /// Adds the object at the next place of the walk, unless it was visited before, with what is asked to know it.
+    /// Adds the object at the next place of the walk, unless it was visited before, and the questions of a walk about it.
     fn add_next(&mut self, class: Option<Class>) -> Result<(), NoMemory> {
         let Some((at, false)) = self.walk.take_place()? else {
             return Ok(());
         };
         let place = self.objects.as_slice().len();
         self.objects.add(Object::new(at.ono, at.container, class))?;
-        for ask in WHAT {
-            self.ask_later(place, class, ask)?;
+        for property in WALK_PROPERTIES {
+            self.ask_later(place, class, property)?;
         }
         Ok(())
     }
 
-    /// A question that is asked behind all that wait, where it is one for this class.
-    fn ask_later(&mut self, place: usize, class: Option<Class>, ask: Ask) -> Result<(), NoMemory> {
-        if !ask.is_for(class) {
+    /// Returns the question for a property of the object at this place, in the present walk.
+    fn question(&self, place: usize, property: Property) -> Question {
+        Question {
+            place,
+            property,
+            epoch: self.epoch,
+        }
+    }
+
+    /// Asks for a property of an object after all that waits, if objects of its class have it.
+    fn ask_later(
+        &mut self,
+        place: usize,
+        class: Option<Class>,
+        property: Property,
+    ) -> Result<(), NoMemory> {
+        if !property.is_of(class) {
             return Ok(());
         }
-        let epoch = self.epoch;
-        let question = Question { place, ask, epoch };
+        let question = self.question(place, property);
         self.waiting.push_back(question).map_err(|_| NoMemory)
     }
 
-    /// These questions are asked of all objects, behind all that wait.
-    fn ask_of_all(&mut self, asks: &[Ask]) -> Result<(), NoMemory> {
-        for ask in asks {
+    /// Asks for these properties of all objects, after all that waits.
+    fn ask_of_all(&mut self, properties: &[Property]) -> Result<(), NoMemory> {
+        for property in properties {
             for place in 0..self.objects.as_slice().len() {
                 if let Some((_, class)) = self.target_of(place) {
-                    self.ask_later(place, class, *ask)?;
+                    self.ask_later(place, class, *property)?;
                 }
             }
         }
@@ -162,23 +179,23 @@ impl Inventory {
         self.is_stale
     }
 
-    /// The link was lost, and the device may be another one: no question is in flight any longer, and all is to be
-    /// asked again.
+    /// Notes that the link was lost: no question is in flight any longer, and all is asked again, since the device may be
+    /// another one.
     pub(crate) fn note_lost(&mut self)
         ensures lost { self.new.is_lost ≡ true }
         ensures objects { self.new.objects ≡ self.old.objects }
     {
-        self.asked.clear();
+        self.pending.clear();
         self.is_lost = true;
     }
 
-    /// Whether questions wait of which each is asked once: those of a walk, and those about all objects behind it.
+    /// Whether the walk goes on, or questions about all objects wait after it.
     pub(crate) fn reads_all(&self) -> bool {
         !self.waiting.is_empty() || !self.walked
     }
 
-    /// Begins another walk if the device is another one, or the link was lost in a walk. If it was lost behind one,
-    /// what is known stays, but for this panel's locks, and counts as confirmed once the device said it again.
+    /// Begins another walk if the device is another one, or the link was lost in a walk. If it was lost after the walk,
+    /// what is known stays, but for this panel's locks, and is confirmed once the device says it again.
     pub(crate) fn begin_again(&mut self) -> Result<(), NoMemory> {
         if self.is_stale || (self.is_lost && !self.walked) {
             return self.begin_anew();
@@ -187,28 +204,28 @@ impl Inventory {
             self.is_lost = false;
             self.objects.note_lost();
             self.waiting.clear();
-            self.ask_of_all(&WHAT)?;
-            self.ask_of_all(&HOW)?;
+            self.ask_of_all(&WALK_PROPERTIES)?;
+            self.ask_of_all(&STATE_PROPERTIES)?;
         }
         Ok(())
     }
 
-    /// Whether a question that was submitted at this moment can still confirm a role or names of positions.
+    /// Returns the moment at which a question was submitted, if its answer can still confirm a role or names of positions.
     fn confirmed(&self, moment: u64) -> Option<u64> {
-        (moment >= self.doubted).then_some(moment)
+        (moment >= self.doubted_until).then_some(moment)
     }
 
     /// Returns the number of questions in flight: they were submitted, and their answers were not taken yet.
     pub fn in_flight(&self) -> usize {
-        self.asked.len()
+        self.pending.len()
     }
 
-    /// A page asked for values, which shows so many objects from this one on.
+    /// Notes that a page asked for values, which shows so many objects from this place on.
     pub(crate) fn open(&mut self, now: u64, first: usize, visible: usize) {
         self.poll.open(now, first, visible);
     }
 
-    /// When the next round of reads may begin.
+    /// Returns when the next round may begin, as [`View::next_moment`](crate::View::next_moment) does.
     pub(crate) fn next_moment(&self, now: u64) -> Option<u64> {
         if self.walked {
             self.poll.next_moment(now)
@@ -217,79 +234,79 @@ impl Inventory {
         }
     }
 
-    /// The number and the class of the object at this place.
+    /// Returns the number and the class of the object at this place.
     pub(crate) fn target_of(&self, place: usize) -> Option<(Ono, Option<Class>)> {
         let object = self.objects.as_slice().get(place)?;
         Some((object.ono, object.class))
     }
 
-    /// The class of the object with this number; `None` where there is none, `Some(None)` where it is not of this
-    /// profile.
+    /// Returns the class of the object with this number: `None` if no such object is known, `Some(None)` if this profile
+    /// does not have its class.
     pub(crate) fn class_of(&self, ono: Ono) -> Option<Option<Class>> {
         let (_, object) = self.objects.find(ono)?;
         Some(object.class)
     }
 
-    /// A question is in flight under this handle, which was submitted at this moment or later.
+    /// Notes that a question was submitted under this handle, at this moment or later.
     pub(crate) fn note_asked(&mut self, handle: Handle, question: Question, moment: u64)
-        ensures { KeepsAsked handle question moment self.old.asked.items self.new.asked.items }
+        ensures { KeepsQuestion handle question moment self.old.pending.items self.new.pending.items }
     {
-        let _ = self.asked.try_push(Asked {
+        let _ = self.pending.try_push(PendingQuestion {
             handle,
             question,
             moment,
         });
     }
 
-    /// The lowest handle of a question in flight, or `next` where it is lower.
+    /// Returns the lowest handle of a question in flight, and `next` if none is in flight.
     pub(crate) fn lowest_handle(&self, next: u32) -> u32 {
-        let mut lowest = next;
-        for asked in self.asked.as_slice() {
-            lowest = lowest.min(asked.handle.0);
-        }
-        lowest
+        let handles = self.pending.as_slice().iter().map(|asked| asked.handle.0);
+        handles.min().unwrap_or(next)
     }
 
-    /// Notes that the device was heard last at this moment. Behind a long silence in which a question waited for its
-    /// answer the device may be another one: then what was asked before now confirms no role and no name of a position
-    /// any longer, and all of them are read again, with the labels, once the walk is over.
+    /// Notes that the device was last heard at this moment. After a long silence in which a question waited for its
+    /// answer, the device may be another one: then no question that was submitted before now confirms a role or a name
+    /// of a position, and all of them are read again, with the labels, once the walk is over.
     pub(crate) fn note_silence(&mut self, heard: u64, now: u64) {
         let is_long = |since: u64| now.saturating_sub(since) > LONGEST_SILENCE_MS;
-        let mut asked = self.asked.as_slice().iter();
-        if is_long(heard) && self.doubted <= heard && asked.any(|asked| is_long(asked.moment)) {
-            self.objects.doubt();
-            self.doubted = now;
-            self.is_doubted = true;
+        let mut pending = self.pending.as_slice().iter();
+        if is_long(heard)
+            && self.doubted_until <= heard
+            && pending.any(|asked| is_long(asked.moment))
+        {
+            self.objects.doubt_names();
+            self.doubted_until = now;
+            self.rereads_names = true;
         }
     }
 
-    /// Takes the answers to questions, and learns what they say. The walk is over once nothing of it waits or is in
+    /// Takes the answers that came, and notes what they say. The walk is over once no question of it waits or is in
     /// flight.
     #[tactic(auto, using(crate::proofs::StepLemmas::answer_rules))]
     pub(crate) fn take_answers<E: End>(&mut self, panel: &mut Panel<E>) -> Result<(), NoMemory>
         ensures { TakesAnswers panel.old panel.new }
     {
         let mut at = 0usize;
-        for _asked in 0..self.asked.len() {
+        for _question in 0..self.pending.len() {
             if !self.take_answer(panel, at)? {
                 at = at.saturating_add(1);
             }
         }
-        if !self.walked && self.waiting.is_empty() && self.asked.is_empty() {
+        if !self.walked && self.waiting.is_empty() && self.pending.is_empty() {
             self.walked = true;
-            self.ask_of_all(&HOW)?;
+            self.ask_of_all(&STATE_PROPERTIES)?;
         }
         Ok(())
     }
 
-    /// Takes the answer to the question in flight at this place, and learns what it says, as of the moment at which the
-    /// question was submitted. Returns whether it is there.
+    /// Takes the answer to the question at this index of those in flight, and notes what it says. Returns `false` if it
+    /// did not come yet, or there is no such question.
     #[tactic(auto, using(crate::proofs::StepLemmas::answer_rules))]
     fn take_answer<E: End>(&mut self, panel: &mut Panel<E>, at: usize) -> Result<bool, NoMemory>
         ensures panel { TakesAnswers panel.old panel.new }
-        ensures takes { TakesAnswerOf (slice_get self.old.asked.items at) panel.old panel.new }
+        ensures takes { TakesAnswerOf (slice_get self.old.pending.items at) panel.old panel.new }
     {
-        let Some(asked) = self.asked.as_slice().get(at).copied() else {
+        let Some(asked) = self.pending.as_slice().get(at).copied() else {
             return Ok(false);
         };
         let Some(outcome) = panel.try_finish(asked.handle) else {
@@ -299,24 +316,24 @@ impl Inventory {
             Some((_, class)) => class_for(class),
             None => Class::Block,
         };
-        let answer = answer_of(class, asked.question.ask.method(), &outcome);
-        let _ = self.asked.pop_at(at);
+        let answer = answer_of(class, asked.question.property.method(), &outcome);
+        let _ = self.pending.pop_at(at);
         self.learn(&asked, answer)?;
         Ok(true)
     }
 
-    /// What is asked next: what waits, and behind a walk that is over what is to be read again: by turns, so that what
-    /// pages show is read also while the names of many objects wait.
+    /// Returns the question that is submitted next. Once the walk is over, questions that wait and questions of a round
+    /// take turns, so that what pages show is read also while the names of many objects wait.
     pub(crate) fn next_question(&mut self, now: u64) -> Option<Question> {
-        self.was_read = self.walked && !self.was_read;
-        if self.was_read
+        self.was_of_round = self.walked && !self.was_of_round;
+        if self.was_of_round
             && let Some(question) = self.read_again(now)
         {
             return Some(question);
         }
-        if self.waiting.is_empty() && self.walked && self.is_doubted {
-            self.is_doubted = false;
-            let _ = self.ask_of_all(&[Ask::Role, Ask::Label, Ask::Names]);
+        if self.waiting.is_empty() && self.walked && self.rereads_names {
+            self.rereads_names = false;
+            let _ = self.ask_of_all(&[Property::Role, Property::Label, Property::Names]);
         }
         match self.waiting.pop_front() {
             None if self.walked => self.read_again(now),
@@ -327,49 +344,51 @@ impl Inventory {
     /// Returns the question to ask at `now` so that the values stay up to date. Its object then counts as read again at
     /// `now`. The result is `None` if no page is open, or nothing is due in this round.
     pub fn read_again(&mut self, now: u64) -> Option<Question> {
-        let (place, ask) = self.poll.next(now, self.objects.as_slice())?;
-        self.objects.note_asked(place, now);
-        let epoch = self.epoch;
-        Some(Question { place, ask, epoch })
+        let (place, property) = self.poll.next(now, self.objects.as_slice())?;
+        self.objects.note_read_again(place, now);
+        Some(self.question(place, property))
     }
 
-    /// A question that could not be submitted is asked before all others.
+    /// Asks this question before all that wait.
     pub(crate) fn ask_again(&mut self, question: Question) -> Result<(), NoMemory> {
         self.waiting.push_front(question).map_err(|_| NoMemory)
     }
 
-    /// What is still to be asked before this order may be submitted: what its page showed and the device, asked behind
-    /// the order, did not confirm within the last 2,000 ms, and no question in flight asks.
-    pub(crate) fn unsure_of(&self, order: &Order, now: u64) -> ArrayVec<Question, 3> {
-        let mut unsure = ArrayVec::new();
+    /// Returns the questions that are still to be submitted before this order: for what its page showed, unless the
+    /// device confirmed it for the order ([`counts_for`]), or a question in flight asks for it.
+    pub(crate) fn unconfirmed_for(&self, order: &Order, now: u64) -> ArrayVec<Question, 3> {
+        let mut unconfirmed = ArrayVec::new();
         let Some((place, object)) = self.objects.find(order.ono) else {
-            return unsure;
+            return unconfirmed;
         };
         let block = self.objects.find(object.container);
-        let block = block.map(|(place, block)| (place, Ask::Role, block.role_read));
+        let block = block.map(|(place, block)| (place, Property::Role, block.role_read));
         let names = match order.action {
-            Action::Set(Value::Switch(_)) => Some((place, Ask::Names, object.names_read)),
+            Action::Set(Value::Switch(_)) => Some((place, Property::Names, object.names_read)),
             _ => None,
         };
-        for wanted in [Some((place, Ask::Role, object.role_read)), block, names] {
-            let Some((place, ask, read)) = wanted else {
+        for needed in [
+            Some((place, Property::Role, object.role_read)),
+            block,
+            names,
+        ] {
+            let Some((place, property, read)) = needed else {
                 continue;
             };
-            let epoch = self.epoch;
-            let question = Question { place, ask, epoch };
-            let is_asked = self.asked.iter().any(|asked| {
-                asked.question == question && counts(order, self.confirmed(asked.moment), now)
+            let question = self.question(place, property);
+            let is_asked = self.pending.iter().any(|asked| {
+                asked.question == question && counts_for(order, self.confirmed(asked.moment), now)
             });
-            if !is_asked && !counts(order, read, now) {
-                let _ = unsure.try_push(question);
+            if !is_asked && !counts_for(order, read, now) {
+                let _ = unconfirmed.try_push(question);
             }
         }
-        unsure
+        unconfirmed
     }
 
-    /// Why this order is never to be sent, if it is so: it is too late, its object is not the one that its page showed,
-    /// or the device refused to say the role of the object or of its block when it was asked behind the order.
-    pub(crate) fn ending_of(&self, order: &Order, now: u64) -> Option<NotDone> {
+    /// Returns why this order must not be sent any more, if so: its last moment has passed, its object is not the one
+    /// that its page showed, or the device refused to say the role of the object or of its block.
+    pub(crate) fn reason_to_end(&self, order: &Order, now: u64) -> Option<NotDone> {
         if order.last < now {
             return Some(NotDone::TooLate);
         }
@@ -377,30 +396,38 @@ impl Inventory {
             return Some(NotDone::Changed);
         }
         let (_, object) = self.objects.find(order.ono)?;
-        if let Some(reason) = refused_behind(order, object) {
+        if let Some(reason) = refusal_for(order, object) {
             return Some(reason);
         }
         let (_, block) = self.objects.find(object.container)?;
-        refused_behind(order, block)
+        refusal_for(order, block)
     }
 
     /// Notes the answer to a question, or the reason why there is none. If the walk of the question is not the present
     /// one, nothing is changed. An answer of another kind than the question asks for is ignored. The only refusal is
     /// `NoMemory`; members of a block may then be missing.
-    fn learn(&mut self, asked: &Asked, answer: Result<Answer, Trouble>) -> Result<(), NoMemory> {
+    fn learn(
+        &mut self,
+        asked: &PendingQuestion,
+        answer: Result<Answer, Trouble>,
+    ) -> Result<(), NoMemory> {
         let (question, moment) = (asked.question, asked.moment);
-        let Question { place, ask, epoch } = question;
+        let Question {
+            place,
+            property,
+            epoch,
+        } = question;
         if epoch != self.epoch {
             return Ok(());
         }
-        match (ask, answer) {
-            (_, Err(trouble)) => self.learn_trouble(place, ask, trouble, moment),
-            (Ask::Members, Ok(Answer::Members(members))) => {
+        match (property, answer) {
+            (_, Err(trouble)) => self.learn_trouble(place, property, trouble, moment),
+            (Property::Members, Ok(Answer::Members(members))) => {
                 return self.learn_members(place, members.as_slice());
             }
             (_, Ok(answer)) => {
                 let object = self.objects.as_slice().get(place);
-                if self.walked && object.is_some_and(|object| object.is_other_by(ask, &answer)) {
+                if self.walked && object.is_some_and(|it| it.differs_from(property, &answer)) {
                     self.is_stale = true;
                 } else {
                     let read = self.confirmed(moment);
@@ -411,23 +438,23 @@ impl Inventory {
         Ok(())
     }
 
-    /// Learns why something was not answered: an object that a different controller locks, a block whose members can't
-    /// be listed, or a device whose objects are others by now.
-    fn learn_trouble(&mut self, place: usize, ask: Ask, trouble: Trouble, moment: u64) {
-        if matches!(ask, Ask::Role | Ask::Names) {
+    /// Notes why a property could not be read: a different controller locks the object, the members of a block can't be
+    /// listed, or the device has other objects by now.
+    fn learn_trouble(&mut self, place: usize, property: Property, trouble: Trouble, moment: u64) {
+        if matches!(property, Property::Role | Property::Names) {
             self.objects.note_refused(place, trouble, moment);
         }
         // BadONo, BadMethod, or an answer of another class: the device has other objects by now.
         let is_other = matches!(trouble, Trouble::Refused(5 | 11) | Trouble::Unreadable);
         if self.walked && is_other {
             self.is_stale = true;
-        } else if let Some(shown) = self.objects.shown(place) {
-            self.objects.show(place, shown.troubled(ask, trouble));
+        } else if let Some(state) = self.objects.state(place) {
+            let state = state.with_trouble(property, trouble);
+            self.objects.set_state(place, state);
         }
     }
 
-    /// Learns the members of a block: in a walk they are visited, else they are compared with what it listed in the
-    /// walk.
+    /// Notes the members of a block: a walk visits them, and after it they are compared with those that the walk found.
     fn learn_members(&mut self, place: usize, members: &[Member]) -> Result<(), NoMemory> {
         let Some((container, _)) = self.target_of(place) else {
             return Ok(());
@@ -435,8 +462,8 @@ impl Inventory {
         if self.walked {
             let is_same = |one: &Listed| one.place == place && one.members.as_slice() == members;
             self.is_stale = self.is_stale || !self.lists.iter().any(is_same);
-            if let Some(shown) = self.objects.shown(place) {
-                self.objects.show(place, shown.free());
+            if let Some(state) = self.objects.state(place) {
+                self.objects.set_state(place, state.readable());
             }
             return Ok(());
         }
@@ -457,30 +484,36 @@ impl Inventory {
         Ok(())
     }
 
+    /// Lets no answer to a question in flight for this property count.
+    fn ignore_answers(&mut self, place: usize, property: Property) {
+        for asked in self.pending.as_mut_slice() {
+            if asked.question.place == place && asked.question.property == property {
+                asked.question.epoch = 0;
+            }
+        }
+    }
+
     /// Notes how orders ended: whose locks are on their objects, and what these are set to. Then a question is put
     /// before all that wait: for the object's label after an order for a label, otherwise for its value, if it has one.
     /// An answer to the same question that is still in flight is not used, since it can be older than the order. The
     /// only refusal is `NoMemory`: then questions are missing.
-    pub(crate) fn learn_orders(&mut self, settled: &[Settled]) -> Result<(), NoMemory> {
+    pub(crate) fn learn_orders(&mut self, settled: &[SettledOrder]) -> Result<(), NoMemory> {
         for one in settled {
             let order = one.sent.order;
+            let property = match order.action {
+                Action::Rename(_) => Property::Label,
+                Action::Set(_) | Action::Lock | Action::Unlock => Property::Value,
+            };
             let Some((place, object)) = self.objects.find(order.ono) else {
                 continue;
             };
-            let (shown, class) = (object.shown, object.class);
-            self.objects.show(place, shown.ordered(order, one.done));
-            let ask = match order.action {
-                Action::Rename(_) => Ask::Label,
-                Action::Set(_) | Action::Lock | Action::Unlock => Ask::Value,
-            };
-            for asked in self.asked.as_mut_slice() {
-                if asked.question.place == place && asked.question.ask == ask {
-                    asked.question.epoch = 0;
-                }
-            }
-            let epoch = self.epoch;
-            if ask.is_for(class) {
-                self.ask_again(Question { place, ask, epoch })?;
+            let (state, class) = (object.state, object.class);
+            self.objects
+                .set_state(place, state.after_order(order, one.done));
+            self.ignore_answers(place, property);
+            if property.is_of(class) {
+                let question = self.question(place, property);
+                self.ask_again(question)?;
             }
         }
         Ok(())

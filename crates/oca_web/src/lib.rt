@@ -9,23 +9,25 @@
 
 mod admission;
 mod answers;
-mod ask;
+mod body;
 mod inventory;
-mod many;
 mod object;
 mod order;
 mod orders;
 mod page;
+mod poll;
+mod question;
 mod site;
 mod view;
 
 pub use admission::{Key, Name, Terms, Unit, UnitOf};
 pub use inventory::Inventory;
-pub use object::{Lock, Object, Objects, Shown, is_class_name};
+pub use object::{Lock, Object, ObjectState, Objects, is_class_name};
 pub use order::{
-    Action, Label, MOST_RESULTS, MOST_WAITING, NotDone, Order, OrderResult, Read, Sent, Wanted,
+    Action, Identity, Label, MOST_RESULTS, MOST_WAITING, NewOrder, NotDone, Order, OrderInFlight,
+    OrderResult,
 };
 pub use orders::Orders;
 pub use page::{PAGE, POLICY};
 pub use site::Site;
-pub use view::{LinkNews, NoOrder, View};
+pub use view::{LinkStatus, View};

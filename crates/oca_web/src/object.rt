@@ -1,10 +1,10 @@
 //! What is known of the objects of a device.
 ghost use Rattle.std.specs.Prelude.{◌≡◌};
 ghost use Rattle.std.specs.Option.{option_copied};
-ghost use Rattle.oca_web.specs.Known.{is_fresh, is_read, names_it, object_numbered};
+ghost use Rattle.oca_web.specs.Known.{counts_for, is_asked_after, is_confirmed, names_it, object_numbered};
 
-use crate::ask::{Ask, Question};
 use crate::order::{Action, CONFIRMED_MS, NotDone, ORDER_MS, Order};
+use crate::question::{Property, Question};
 use oca_model::{Answer, Flags, Names, Reading, Value, class_word, with_integers};
 use oca_panel::Trouble;
 use oca_types::{Class, NoMemory, Ono, Text};
@@ -32,9 +32,9 @@ impl Lock {
     }
 }
 
-/// What a page shows of an object that changes: its setting, its lock and why it could not be read.
+/// What changes of an object: its setting, its lock and why it could not be read.
 #[derive(Clone, Copy, PartialEq, Eq)]
-pub struct Shown {
+pub struct ObjectState {
     /// The setting with its limits, and `None` before it was read.
     pub reading: Option<Reading>,
     /// A moment, in milliseconds of the program's clock: after this moment the device had this setting. 0 before the
@@ -48,69 +48,69 @@ pub struct Shown {
     pub enabled: bool,
 }
 
-impl Shown {
+impl ObjectState {
     ghost use Rattle.std.specs.Prelude.{◌≡◌, ◌⊎◌, ◌-◌, Some};
 
-    /// Once the object was read, by a question that was submitted at this moment or later: there is no trouble, and no
-    /// lock of a different controller.
-    pub(crate) fn read(self, reading: Reading, moment: u64) -> Shown
+    /// Returns the state with this reading, by a question that was submitted at `moment` or later. So there is no
+    /// trouble, and no lock of a different controller.
+    pub(crate) fn with_reading(self, reading: Reading, moment: u64) -> ObjectState
         ensures reading { result.reading ≡ Some reading }
         ensures moment { result.confirmed ≡ moment }
     {
-        Shown {
+        ObjectState {
             reading: Some(reading),
             confirmed: moment,
-            ..self.free()
+            ..self.readable()
         }
     }
 
-    /// Once the object could be read: there is no trouble, and no lock of a different controller.
-    pub(crate) fn free(self) -> Shown
+    /// Returns the state of an object that could be read: without trouble, and without a lock of a different controller.
+    pub(crate) fn readable(self) -> ObjectState
         ensures { result.confirmed ≡ self.confirmed }
     {
         let lock = match self.lock {
             Lock::Own => Lock::Own,
             Lock::Free | Lock::Other => Lock::Free,
         };
-        Shown {
+        ObjectState {
             trouble: None,
             lock,
             ..self
         }
     }
 
-    /// Behind an order that ended so. One that was carried out was so behind the moment at which its request was read:
-    /// what it set is shown as of that moment, where the object was read before.
-    pub(crate) fn ordered(self, order: Order, done: Result<(), Trouble>) -> Shown
+    /// Returns the state after an order that ended so. What it set is confirmed as of the moment when its request was
+    /// read, if the object was read before.
+    pub(crate) fn after_order(self, order: Order, done: Result<(), Trouble>) -> ObjectState
         ensures { (result.confirmed ≡ self.confirmed) ⊎ (result.confirmed ≡ order.last - 5000) }
     {
         match (done, order.action, self.reading) {
-            (Ok(()), Action::Set(value), Some(reading)) => Shown {
+            (Ok(()), Action::Set(value), Some(reading)) => ObjectState {
                 reading: Some(reading.with_value(value).unwrap_or(reading)),
                 confirmed: order.last.saturating_sub(ORDER_MS),
                 ..self
             },
-            (Ok(()), Action::Lock, _) => self.locked(Lock::Own),
-            (Ok(()), Action::Unlock, _) => self.locked(Lock::Free),
-            (Err(Trouble::Refused(LOCKED)), _, _) => self.locked(Lock::Other),
+            (Ok(()), Action::Lock, _) => self.with_lock(Lock::Own),
+            (Ok(()), Action::Unlock, _) => self.with_lock(Lock::Free),
+            (Err(Trouble::Refused(LOCKED)), _, _) => self.with_lock(Lock::Other),
             _ => self,
         }
     }
 
-    /// With the lock of this controller, of another, or of none.
-    fn locked(self, lock: Lock) -> Shown
+    fn with_lock(self, lock: Lock) -> ObjectState
         ensures { result.confirmed ≡ self.confirmed }
     {
-        Shown { lock, ..self }
+        ObjectState { lock, ..self }
     }
 
-    /// Where this was not answered: a different controller's lock, or why the value or the members are not there.
-    pub(crate) fn troubled(self, ask: Ask, trouble: Trouble) -> Shown
+    /// Returns the state after this property could not be read: with a different controller's lock, or with the reason
+    /// why the value or the members are missing.
+    pub(crate) fn with_trouble(self, property: Property, trouble: Trouble) -> ObjectState
         ensures { result.confirmed ≡ self.confirmed }
     {
-        match (ask, trouble) {
-            (_, Trouble::Refused(LOCKED)) => self.locked(Lock::Other),
-            (Ask::Members | Ask::Value, _) => Shown {
+        match (property, trouble) {
+            (_, Trouble::Refused(LOCKED)) => self.with_lock(Lock::Other),
+            (Property::Members | Property::Value, _) => ObjectState {
                 trouble: Some(trouble),
                 ..self
             },
@@ -145,17 +145,17 @@ pub struct Object {
     /// A moment after which the device had these names, as `role_read` is one.
     pub names_read: Option<u64>,
     /// Whether the link was lost since the device said the role, or refused to: it may be another device.
-    pub doubted: bool,
+    pub may_be_other: bool,
     /// Why the role or these names were last refused, and the moment when that question was submitted.
     pub refused: Option<(Trouble, u64)>,
     /// For each position of a switch, whether the position is enabled.
     pub flags: Flags,
     /// What changes of the object.
-    pub shown: Shown,
+    pub state: ObjectState,
     /// The number of the last change of this object ([`Objects`]).
     pub changed: u64,
     /// The moment when the object was read again last, in milliseconds of the program's clock.
-    pub asked: u64,
+    pub last_asked: u64,
     /// How often the object was read again.
     pub readings: u32,
 }
@@ -178,10 +178,10 @@ impl Object {
             lockable: false,
             names: Names::new(),
             names_read: None,
-            doubted: false,
+            may_be_other: false,
             refused: None,
             flags: Flags::new(),
-            shown: Shown {
+            state: ObjectState {
                 reading: None,
                 confirmed: 0,
                 trouble: None,
@@ -189,12 +189,12 @@ impl Object {
                 enabled: true,
             },
             changed: 0,
-            asked: 0,
+            last_asked: 0,
             readings: 0,
         }
     }
 
-    /// The device had this role after this moment, where one is given.
+    /// Notes that the device had this role after the moment `read`, if there is one.
     pub(crate) fn confirm_role(&mut self, role: Text, read: Option<u64>)
         ensures { self.new ≡ record self.old { role = role; role_read = read } }
     {
@@ -202,7 +202,7 @@ impl Object {
         self.role_read = read;
     }
 
-    /// The device had these names of positions after this moment, where one is given.
+    /// Notes that the device had these names of positions after the moment `read`, if there is one.
     pub(crate) fn confirm_names(&mut self, names: Names, read: Option<u64>)
         ensures { self.new ≡ record self.old { names = names; names_read = read } }
     {
@@ -210,81 +210,82 @@ impl Object {
         self.names_read = read;
     }
 
-    /// Replaces what pages show of the object, and returns whether anything else differs than the moment of the
-    /// reading.
-    fn show(&mut self, shown: Shown) -> bool
-        ensures { self.new ≡ record self.old { shown = shown } }
+    /// Replaces the state, and returns whether anything else differs than the moment of the reading.
+    fn set_state(&mut self, state: ObjectState) -> bool
+        ensures { self.new ≡ record self.old { state = state } }
     {
-        let confirmed = shown.confirmed;
-        let is_same = Shown {
-            confirmed,
-            ..self.shown
-        } == shown;
-        self.shown = shown;
-        !is_same
+        let old = ObjectState {
+            confirmed: state.confirmed,
+            ..self.state
+        };
+        self.state = state;
+        old != state
     }
 
     /// Notes the answer to a question that was submitted at `moment` or later, and returns whether it changes the
     /// object. The answer confirms a role, or names of positions, as of the moment `read`, if there is one. An answer
     /// of another kind than the question asks for changes nothing.
-    fn learn(&mut self, ask: Ask, answer: Answer, moment: u64, read: Option<u64>) -> bool
+    fn learn(&mut self, property: Property, answer: Answer, moment: u64, read: Option<u64>) -> bool
         ensures role { ((self.new.role ≡ self.old.role) × (self.new.role_read ≡ self.old.role_read))
             ⊎ (self.new.role_read ≡ read) }
         ensures names { ((self.new.names ≡ self.old.names) × (self.new.names_read ≡ self.old.names_read))
             ⊎ (self.new.names_read ≡ read) }
     {
-        let shown = self.shown;
-        match (ask, answer) {
-            (Ask::Role, Answer::Text(role)) => {
+        let state = self.state;
+        match (property, answer) {
+            (Property::Role, Answer::Text(role)) => {
                 let is_same = self.role.as_str() == role.as_str();
-                self.doubted = false;
+                self.may_be_other = false;
                 self.confirm_role(role, read);
                 !is_same
             }
-            (Ask::Names, Answer::Names(names)) => {
+            (Property::Names, Answer::Names(names)) => {
                 let is_same = are_same(&self.names, &names);
                 self.confirm_names(names, read);
                 !is_same
             }
-            (Ask::Label, Answer::Text(label)) => {
+            (Property::Label, Answer::Text(label)) => {
                 let is_same = self.label.as_str() == label.as_str();
                 self.label = label;
                 !is_same
             }
-            (Ask::Flags, Answer::Flags(flags)) => {
+            (Property::Flags, Answer::Flags(flags)) => {
                 let is_same = self.flags.as_slice() == flags.as_slice();
                 self.flags = flags;
                 !is_same
             }
-            (Ask::Lockable, Answer::Truth(lockable)) => {
+            (Property::Lockable, Answer::Truth(lockable)) => {
                 self.lockable = lockable;
                 true
             }
-            (Ask::Enabled, Answer::Truth(enabled)) => self.show(Shown { enabled, ..shown }),
-            (Ask::Value, Answer::Reading(reading)) => {
-                let confirmed = if self.doubted {
-                    shown.confirmed
+            (Property::Enabled, Answer::Truth(enabled)) => self.set_state(ObjectState {
+                enabled,
+                ..state
+            }),
+            (Property::Value, Answer::Reading(reading)) => {
+                let confirmed = if self.may_be_other {
+                    state.confirmed
                 } else {
                     moment
                 };
-                self.show(shown.read(reading, confirmed))
+                self.set_state(state.with_reading(reading, confirmed))
             }
             _ => false,
         }
     }
 
-    /// Whether an answer gives the object another role, or other names of positions, than it had, or it can be locked
-    /// now or no longer.
-    pub(crate) fn is_other_by(&self, ask: Ask, answer: &Answer) -> bool {
-        match (ask, answer) {
-            (Ask::Role, Answer::Text(role)) => self.role.as_str() != role.as_str(),
-            (Ask::Names, Answer::Names(names)) => !are_same(&self.names, names),
-            (Ask::Lockable, Answer::Truth(lockable)) => self.lockable != *lockable,
+    /// Whether an answer shows that this is another object: one with another role or other names of positions, or one
+    /// that can be locked if this one can't, or the other way round.
+    pub(crate) fn differs_from(&self, property: Property, answer: &Answer) -> bool {
+        match (property, answer) {
+            (Property::Role, Answer::Text(role)) => self.role.as_str() != role.as_str(),
+            (Property::Names, Answer::Names(names)) => !are_same(&self.names, names),
+            (Property::Lockable, Answer::Truth(lockable)) => self.lockable != *lockable,
             _ => false,
         }
     }
 
-    /// The name of this position of a switch, empty where there is none.
+    /// The name of this position of a switch, empty if there is none.
     pub(crate) fn position(&self, at: u16) -> &str
         ensures { result.now ≡ name_at at self.now.names.items }
     {
@@ -340,75 +341,76 @@ impl Objects {
         self.list.push(object).map_err(|_| NoMemory)
     }
 
-    /// Counts a change of the object at this place.
-    fn count(&mut self, place: usize) {
-        self.changes = self.changes.saturating_add(1);
-        if place < self.list.len() {
-            self.list[place].changed = self.changes;
-        }
-    }
-
     /// Notes the answer to a question about an object ([`Object::learn`]), which counts as a change if it changes
     /// the object.
-    pub(crate) fn learn(&mut self, of: Question, answer: Answer, moment: u64, read: Option<u64>) {
-        let Question { place, ask, .. } = of;
-        if place < self.list.len() && self.list[place].learn(ask, answer, moment, read) {
-            self.count(place);
+    pub(crate) fn learn(
+        &mut self,
+        question: Question,
+        answer: Answer,
+        moment: u64,
+        read: Option<u64>,
+    ) {
+        if let Some(object) = self.list.get_mut(question.place)
+            && object.learn(question.property, answer, moment, read)
+        {
+            self.changes = self.changes.saturating_add(1);
+            object.changed = self.changes;
         }
     }
 
-    /// The device refused the role, or the names of the positions, of the object at this place, when they were asked at
-    /// this moment.
+    /// Notes that the device refused to say the role, or the names of the positions, of the object at this place, when it
+    /// was asked at this moment.
     pub(crate) fn note_refused(&mut self, place: usize, trouble: Trouble, moment: u64) {
-        if place < self.list.len() {
-            self.list[place].doubted = false;
-            self.list[place].refused = Some((trouble, moment));
+        if let Some(object) = self.list.get_mut(place) {
+            object.may_be_other = false;
+            object.refused = Some((trouble, moment));
         }
     }
 
-    /// The device may be another one by now: no role and no name of a position is confirmed any longer.
-    pub(crate) fn doubt(&mut self) {
+    /// Notes that the device may be another one by now: no role and no name of a position is confirmed any longer.
+    pub(crate) fn doubt_names(&mut self) {
         for object in self.list.as_mut_slice() {
             object.role_read = None;
             object.names_read = None;
         }
     }
 
-    /// The link was lost. The device may be another one by now, or have forgotten the locks of this panel: no role and
-    /// no name of a position is confirmed any longer, a value counts as confirmed only behind its object's role, and no
+    /// Notes that the link was lost. The device may be another one by now, or have forgotten the locks of this panel: no
+    /// role and no name of a position is confirmed any longer, a value is confirmed only after its object's role, and no
     /// lock of this panel is known.
     pub(crate) fn note_lost(&mut self) {
-        self.doubt();
+        self.doubt_names();
         for object in self.list.as_mut_slice() {
-            object.doubted = true;
-        }
-        for place in 0..self.list.len() {
-            if let Some(shown) = self.shown(place)
-                && shown.lock == Lock::Own
-            {
-                self.show(place, shown.locked(Lock::Free));
+            object.may_be_other = true;
+            if object.state.lock == Lock::Own {
+                object.state.lock = Lock::Free;
+                self.changes = self.changes.saturating_add(1);
+                object.changed = self.changes;
             }
         }
     }
 
-    /// Returns what pages show of the object at `place`, and `None` where none is.
-    pub(crate) fn shown(&self, place: usize) -> Option<Shown> {
-        Some(self.list.as_slice().get(place)?.shown)
+    /// Returns the state of the object at `place`, and `None` where none is.
+    pub(crate) fn state(&self, place: usize) -> Option<ObjectState> {
+        Some(self.list.as_slice().get(place)?.state)
     }
 
-    /// Replaces what pages show of the object at `place`, which counts as a change if anything else differs than the
-    /// moment of the reading.
-    pub(crate) fn show(&mut self, place: usize, shown: Shown) {
-        if place < self.list.len() && self.list[place].show(shown) {
-            self.count(place);
+    /// Replaces the state of the object at `place`, which counts as a change if anything else differs than the moment of
+    /// the reading.
+    pub(crate) fn set_state(&mut self, place: usize, state: ObjectState) {
+        if let Some(object) = self.list.get_mut(place)
+            && object.set_state(state)
+        {
+            self.changes = self.changes.saturating_add(1);
+            object.changed = self.changes;
         }
     }
 
-    /// The object at this place is read again at this moment.
-    pub(crate) fn note_asked(&mut self, place: usize, now: u64) {
-        if place < self.list.len() {
-            self.list[place].asked = now;
-            self.list[place].readings = self.list[place].readings.wrapping_add(1);
+    /// Notes that the object at this place is read again at this moment.
+    pub(crate) fn note_read_again(&mut self, place: usize, now: u64) {
+        if let Some(object) = self.list.get_mut(place) {
+            object.last_asked = now;
+            object.readings = object.readings.wrapping_add(1);
         }
     }
 
@@ -426,102 +428,81 @@ fn are_same(names: &Names, others: &Names) -> bool {
     names.len() == others.len() && pairs.all(|(one, other)| one.as_str() == other.as_str())
 }
 
-/// Whether a reading of this moment is still so: at most 2,000 ms passed since then.
-fn is_fresh(now: u64, read: Option<u64>) -> bool
-    ensures { result ≡ is_fresh now read }
-{
-    match read {
-        Some(moment) => now.saturating_sub(moment) <= CONFIRMED_MS,
-        None => false,
-    }
-}
-
 /// The first object with this number.
-fn numbered(objects: &[Object], ono: Ono) -> Option<&Object>
+fn find(objects: &[Object], ono: Ono) -> Option<&Object>
     ensures { option_copied result ≡ object_numbered ono.0 objects.now }
 {
     objects.iter().find(|object| object.ono.0 == ono.0)
 }
 
-/// Whether the object of an order has the role that the page showed, in a block of the role that it showed (none where
-/// it showed an empty role), and if a switch is set, the position has the name that it showed: as far as is known.
+/// Whether the object of an order is the one that its page showed, as far as is known: it has that role, is in a block
+/// of that role (an empty role means none), and if a switch is set, the position has that name.
 pub(crate) fn names_it(objects: &[Object], order: &Order) -> bool
     ensures { result ≡ names_it order.now objects.now }
 {
-    let Some(object) = numbered(objects, order.ono) else {
+    let Some(object) = find(objects, order.ono) else {
         return false;
     };
-    let is_block = match numbered(objects, object.container) {
-        Some(block) => order.read.block.is(block.role.as_str()),
-        None => order.read.block.is(""),
+    let is_block = match find(objects, object.container) {
+        Some(block) => order.identity.block.is(block.role.as_str()),
+        None => order.identity.block.is(""),
     };
     let is_position = match order.action {
-        Action::Set(Value::Switch(at)) => order.read.position.is(object.position(at)),
+        Action::Set(Value::Switch(at)) => order.identity.position.is(object.position(at)),
         _ => true,
     };
-    order.read.role.is(object.role.as_str()) && is_block && is_position
+    order.identity.role.is(object.role.as_str()) && is_block && is_position
 }
 
-/// Whether the device said so of the object of an order at most 2,000 ms ago, and so it is the one that the page
-/// showed: of its role, of the role of its block, if there is one, and if a switch is set, of the names of its
-/// positions.
-pub(crate) fn is_read(objects: &[Object], order: &Order, now: u64) -> bool
-    ensures { result ≡ is_read now order.now objects.now }
+/// Whether the question that was submitted at this moment was asked after the order's request was read. An earlier one
+/// may have been answered by a device that was replaced since.
+fn is_asked_after(order: &Order, moment: u64) -> bool
+    ensures { result ≡ is_asked_after order.now moment }
 {
-    let Some(object) = numbered(objects, order.ono) else {
-        return false;
-    };
-    let is_block_read = match numbered(objects, object.container) {
-        Some(block) => is_fresh(now, block.role_read),
-        None => true,
-    };
-    let is_position_read = match order.action {
-        Action::Set(Value::Switch(_)) => is_fresh(now, object.names_read),
-        _ => true,
-    };
-    names_it(objects, order) && is_fresh(now, object.role_read) && is_block_read && is_position_read
+    order.last.saturating_sub(ORDER_MS) <= moment
 }
 
-/// Whether what the device confirmed after this moment was asked behind the order: what was asked before may have been
-/// answered by another device, which nobody missed.
-fn is_behind(order: &Order, read: Option<u64>) -> bool {
+/// Whether a confirmation as of this moment counts for the order now: at most 2,000 ms passed since then, and it was
+/// asked for after the order.
+pub(crate) fn counts_for(order: &Order, read: Option<u64>, now: u64) -> bool
+    ensures { result ≡ counts_for order.now now read }
+{
     match read {
-        Some(moment) => order.last <= moment.saturating_add(ORDER_MS),
+        Some(moment) => now.saturating_sub(moment) <= CONFIRMED_MS && is_asked_after(order, moment),
         None => false,
     }
 }
 
-/// Whether what the device confirmed after this moment counts for the order now.
-pub(crate) fn counts(order: &Order, read: Option<u64>, now: u64) -> bool {
-    is_fresh(now, read) && is_behind(order, read)
-}
-
-/// Why an order is never sent, if the device refused the role of this object, or the names of its positions, when it
-/// was asked behind the order.
-pub(crate) fn refused_behind(order: &Order, object: &Object) -> Option<NotDone> {
-    match object.refused {
-        Some((trouble, moment)) if is_behind(order, Some(moment)) => Some(NotDone::Trouble(
-            trouble,
-        )),
-        _ => None,
-    }
-}
-
-/// Whether all was asked behind an order that the device confirmed of its object, its block and the position to which
-/// it is set.
-pub(crate) fn is_all_behind(objects: &[Object], order: &Order) -> bool {
-    let Some(object) = numbered(objects, order.ono) else {
+/// Whether the object of an order is the one that its page showed ([`names_it`]), and the device confirmed this for the
+/// order ([`counts_for`]): its role, the role of its block, if there is one, and if a switch is set, the names of its
+/// positions.
+pub(crate) fn is_confirmed(objects: &[Object], order: &Order, now: u64) -> bool
+    ensures { result ≡ is_confirmed now order.now objects.now }
+{
+    let Some(object) = find(objects, order.ono) else {
         return false;
     };
-    let is_block_behind = match numbered(objects, object.container) {
-        Some(block) => is_behind(order, block.role_read),
+    let is_block_confirmed = match find(objects, object.container) {
+        Some(block) => counts_for(order, block.role_read, now),
         None => true,
     };
-    let is_position_behind = match order.action {
-        Action::Set(Value::Switch(_)) => is_behind(order, object.names_read),
+    let is_position_confirmed = match order.action {
+        Action::Set(Value::Switch(_)) => counts_for(order, object.names_read, now),
         _ => true,
     };
-    is_behind(order, object.role_read) && is_block_behind && is_position_behind
+    names_it(objects, order)
+        && counts_for(order, object.role_read, now)
+        && is_block_confirmed
+        && is_position_confirmed
+}
+
+/// Why an order must not be sent, if the device refused to say this object's role, or the names of its positions, when
+/// it was asked after the order.
+pub(crate) fn refusal_for(order: &Order, object: &Object) -> Option<NotDone> {
+    match object.refused {
+        Some((trouble, moment)) if is_asked_after(order, moment) => Some(NotDone::Trouble(trouble)),
+        _ => None,
+    }
 }
 
 /// Returns the least and the greatest value of a reading (AES70-2). The result is `None` for a mute, a polarity and a

@@ -16,11 +16,10 @@ pub const MOST_IN_FLIGHT: usize = 32;
 /// The greatest number of ended orders whose results are stored: 512.
 pub const MOST_RESULTS: usize = 512;
 
-/// For how many milliseconds after its request was read an order may be submitted: 5,000.
+/// An order may be submitted for so many milliseconds after its request was read: 5,000.
 pub const ORDER_MS: u64 = 5000;
 
-/// An order is submitted only if what its page showed was confirmed by the device so many milliseconds ago at most:
-/// 2,000.
+/// An order is submitted only if the device confirmed what its page showed at most so many milliseconds ago: 2,000.
 pub const CONFIRMED_MS: u64 = 2000;
 
 /// The most bytes of a label.
@@ -150,10 +149,10 @@ impl Action {
     }
 }
 
-/// What the page showed of an object when a person ordered something of it: an order is for the object that this person
-/// read, and for no other that has its number by now.
+/// What the page showed of an object when a person ordered something of it. The order is for that object, and for no
+/// other that has its number by now.
 #[derive(Clone, Copy, PartialEq, Eq, Default)]
-pub struct Read {
+pub struct Identity {
     /// The role of the object.
     pub role: Label,
     /// The role of the block that lists the object, empty where none does.
@@ -162,13 +161,13 @@ pub struct Read {
     pub position: Label,
 }
 
-/// An object and what a page wants done with it.
+/// An order as a page gives it, without a ticket.
 #[derive(Clone, Copy, PartialEq, Eq)]
-pub struct Wanted {
+pub struct NewOrder {
     /// The number of the object.
     pub ono: Ono,
     /// What the page showed of the object.
-    pub read: Read,
+    pub identity: Identity,
     /// What is done with the object.
     pub action: Action,
 }
@@ -181,7 +180,7 @@ pub struct Order {
     /// The number of the object.
     pub ono: Ono,
     /// What the page showed of the object.
-    pub read: Read,
+    pub identity: Identity,
     /// What is done with the object.
     pub action: Action,
     /// The moment, in milliseconds of the program's clock, after which the order must not be submitted.
@@ -190,17 +189,17 @@ pub struct Order {
 
 /// An order in flight: its command was submitted, and the outcome was not taken yet.
 #[derive(Clone, Copy, PartialEq, Eq)]
-pub struct Sent {
+pub struct OrderInFlight {
     /// The handle of the order's command.
     pub handle: Handle,
     /// The order.
     pub order: Order,
 }
 
-impl Default for Sent {
+impl Default for OrderInFlight {
     /// An order that nobody gave.
     fn default() -> Self {
-        Sent {
+        OrderInFlight {
             handle: Handle(0),
             order: Order::default(),
         }

@@ -1,13 +1,13 @@
-//! The orders of the pages: those that wait, those in flight, and how the last ones ended. Over a panel each that waits
-//! is submitted at most once, in time and for the object that its page showed, and what the answers say is noted under their
-//! tickets.
+//! The orders of the pages: those that wait, those in flight, and how the last ones ended. Each is submitted at most
+//! once, in time and for the object that its page showed; its result is stored under its ticket.
 ghost use Rattle.std.specs.Prelude.{◌≡◌, ◌<◌, length, nat_lt, IfSome};
 ghost use Rattle.std.specs.List.{position};
 ghost use Rattle.oca_web.specs.Orders.{LosesOrders, SettlesAt, SettlesOrders, SubmitsFirst, SubmitsOrders};
 
-use crate::object::{Object, is_all_behind, is_read};
+use crate::object::{Object, is_confirmed};
 use crate::order::{
-    MOST_IN_FLIGHT, MOST_RESULTS, MOST_WAITING, NotDone, Order, OrderResult, Sent, Wanted,
+    MOST_IN_FLIGHT, MOST_RESULTS, MOST_WAITING, NewOrder, NotDone, Order, OrderInFlight,
+    OrderResult,
 };
 use arrayvec::ArrayVec;
 use oca_control::ControlFault;
@@ -23,7 +23,7 @@ use std::marker::Model;
 #[derive(Drop)]
 pub struct Orders {
     waiting: ArrayVec<Order, MOST_WAITING>,
-    in_flight: ArrayVec<Sent, MOST_IN_FLIGHT>,
+    in_flight: ArrayVec<OrderInFlight, MOST_IN_FLIGHT>,
     results: ArrayVec<OrderResult, MOST_RESULTS>,
     tickets: u64,
 }
@@ -67,7 +67,8 @@ impl Orders {
         self.tickets.saturating_add(1)
     }
 
-    /// Returns whether `count` more orders can be added, as [`View::has_room`](crate::View::has_room) does.
+    /// Returns whether `count` more orders can be added: then at most 256 orders would wait, and each would get a ticket
+    /// below 2^64 - 1.
     pub fn has_room(&self, count: usize) -> bool
         ensures { result ≡ has_room_for count self.now }
     {
@@ -78,21 +79,21 @@ impl Orders {
     /// Adds the orders `wanted`, all of them or none, as [`View::order_all`](crate::View::order_all) does. If `wanted`
     /// is empty, the result is the next ticket, and no order is added.
     #[tactic(auto, using(crate::proofs::OrderLemmas::many_rules))]
-    pub fn add_all(&mut self, wanted: &[Wanted], last: u64) -> Option<u64>
+    pub fn add_all(&mut self, wanted: &[NewOrder], last: u64) -> Option<u64>
         ensures { AddsAll wanted.now last self.old result self.new }
     {
         if !self.has_room(wanted.len()) {
             return None;
         }
         let first = self.tickets + 1;
-        for one in wanted {
-            self.put(*one, last);
+        for order in wanted {
+            self.push(*order, last);
         }
         Some(first)
     }
 
-    /// Adds an order, for which there is room.
-    fn put(&mut self, wanted: Wanted, last: u64)
+    /// Adds an order, for which there is room, with the next ticket.
+    fn push(&mut self, wanted: NewOrder, last: u64)
         requires room { length self.old.waiting < 256 }
         requires tickets { self.old.tickets < 18446744073709551615 }
         ensures { self.new ≡ with_order wanted last self.old }
@@ -101,7 +102,7 @@ impl Orders {
         self.waiting.push(Order {
             ticket: self.tickets,
             ono: wanted.ono,
-            read: wanted.read,
+            identity: wanted.identity,
             action: wanted.action,
             last,
         });
@@ -111,8 +112,10 @@ impl Orders {
     fn is_in_flight(&self, ono: Ono) -> bool
         ensures { result ≡ is_in_flight ono.0 self.now.in_flight }
     {
-        let mut sent = self.in_flight.as_slice().iter();
-        sent.any(|sent| sent.order.ono.0 == ono.0)
+        self.in_flight
+            .as_slice()
+            .iter()
+            .any(|sent| sent.order.ono.0 == ono.0)
     }
 
     /// Returns the order that is submitted next: the first that waits. The result is `None` if no order
@@ -128,9 +131,9 @@ impl Orders {
         Some(order)
     }
 
-    /// The order that is submitted next is in flight under this handle from now on.
+    /// Moves the order that is ready to those in flight, under the handle of its command.
     #[tactic(auto, using(crate::proofs::OrderLemmas::ready_is_first, crate::proofs::OrderLemmas::ready_has_room))]
-    pub(crate) fn note_sent(&mut self, order: Order, handle: Handle)
+    pub(crate) fn note_submitted(&mut self, order: Order, handle: Handle)
         requires { ready_of self.old.waiting self.old.in_flight ≡ Some order }
         ensures first { self.old.waiting ≡ order ∷ self.new.waiting }
         ensures in_flight { self.new.in_flight ≡ self.old.in_flight ++ (record { handle = handle; order = order })
@@ -139,7 +142,7 @@ impl Orders {
         ensures tickets { self.new.tickets ≡ self.old.tickets }
     {
         let _ = self.waiting.pop_at(0);
-        let _ = self.in_flight.try_push(Sent { handle, order });
+        let _ = self.in_flight.try_push(OrderInFlight { handle, order });
     }
 
     /// Returns the number of orders in flight: their commands were submitted, and the outcomes are not known yet.
@@ -159,7 +162,8 @@ impl Orders {
         !self.waiting.is_empty()
     }
 
-    /// Keeps how an order ended, before the first result with a greater ticket, and forgets the lowest of 512.
+    /// Stores how an order ended, before the first result with a greater ticket. If 512 results are stored, the first
+    /// one is removed.
     fn note_result(&mut self, order: Order, done: Result<(), NotDone>)
         ensures { self.new ≡ record self.old { results = with_result self.old.results (result_of order done) } }
     {
@@ -171,14 +175,14 @@ impl Orders {
             ono: order.ono,
             done,
         };
-        match place_behind(self.results.as_slice(), order.ticket) {
+        match index_behind(self.results.as_slice(), order.ticket) {
             Some(at) => self.results.insert(at, result),
             None => self.results.push(result),
         }
     }
 
-    /// The order in flight at this place came out so.
-    pub(crate) fn settle(&mut self, at: usize, sent: &Sent, done: Result<(), Trouble>)
+    /// Removes the order at index `at` of those in flight, and stores how it ended.
+    pub(crate) fn settle(&mut self, at: usize, sent: &OrderInFlight, done: Result<(), Trouble>)
         requires { slice_get self.old.in_flight at ≡ Some sent.now }
         ensures { self.new ≡ record self.old {
           in_flight = remove self.old.in_flight at;
@@ -191,8 +195,8 @@ impl Orders {
         self.note_result(order, done.map_err(|trouble| NotDone::Trouble(trouble)));
     }
 
-    /// All orders are lost with the link: those in flight may have been carried out, and those that wait
-    /// were never sent.
+    /// Ends all orders, since the link is lost: those in flight as lost (they may have been carried out), and those that
+    /// wait as not sent.
     #[tactic(auto, using(crate::proofs::OrderLemmas::losing_rules))]
     pub(crate) fn lose(&mut self)
         ensures { self.new ≡ lost_orders self.old }
@@ -203,7 +207,7 @@ impl Orders {
         self.lose_waiting(NotDone::Trouble(Trouble::NotSubmitted(ControlFault::Lost)));
     }
 
-    /// Notes that the orders that wait were not sent, for this reason.
+    /// Ends all orders that wait, for this reason.
     #[tactic(auto, using(crate::proofs::OrderLemmas::losing_rules))]
     pub(crate) fn lose_waiting(&mut self, reason: NotDone)
         ensures { self.new ≡ record self.old {
@@ -216,14 +220,14 @@ impl Orders {
         }
     }
 
-    /// The order that waits at this place, counted from 0.
+    /// The order at this index of those that wait.
     pub(crate) fn waiting_at(&self, at: usize) -> Option<Order>
         ensures { result ≡ slice_get self.now.waiting at }
     {
         self.waiting.as_slice().get(at).copied()
     }
 
-    /// The order that waits at this place is never sent, for this reason.
+    /// Ends the order at this index of those that wait, for this reason, if there is one.
     pub(crate) fn end_at(&mut self, at: usize, reason: NotDone)
         ensures { EndsAt at reason (slice_get self.old.waiting at) self.old self.new }
     {
@@ -240,28 +244,22 @@ impl Orders {
         self.results.as_slice()
     }
 
-    /// The handle above those of all orders in flight; 0 where none is.
+    /// The greatest handle of an order in flight plus 1, and 0 if none is in flight.
     pub(crate) fn next_handle(&self) -> u32 {
-        let mut next = 0u32;
-        for sent in self.in_flight.as_slice() {
-            next = next.max(sent.handle.0.saturating_add(1));
-        }
-        next
+        let handles = self.in_flight.as_slice().iter().map(|sent| sent.handle.0);
+        handles.max().map_or(0, |handle| handle.saturating_add(1))
     }
 
-    /// The lowest handle of an order in flight, or `next` where it is lower.
+    /// The lowest handle of an order in flight, and `next` if none is in flight.
     pub(crate) fn lowest_handle(&self, next: u32) -> u32 {
-        let mut lowest = next;
-        for sent in self.in_flight.as_slice() {
-            lowest = lowest.min(sent.handle.0);
-        }
-        lowest
+        let handles = self.in_flight.as_slice().iter().map(|sent| sent.handle.0);
+        handles.min().unwrap_or(next)
     }
 }
 
-/// Where the first result stands that has a greater ticket.
+/// The index of the first result with a greater ticket.
 #[tactic(auto, using(crate::proofs::OrderLemmas::placed_within))]
-fn place_behind(results: &[OrderResult], ticket: u64) -> Option<usize>
+fn index_behind(results: &[OrderResult], ticket: u64) -> Option<usize>
     ensures place { result ≡ position (λ r. nat_lt ticket r.ticket) results.now }
     ensures within { IfSome result (λ at. at < length results.now) }
 {
@@ -271,9 +269,9 @@ fn place_behind(results: &[OrderResult], ticket: u64) -> Option<usize>
 /// Submits the next order of the pages, and returns whether it did. Its command is then sent at once, and the order is
 /// in flight. `known` are the objects of the device, and the program's clock is `ahead` milliseconds ahead of the clock
 /// of the panel's end. The result is `false` if no order is ready ([`Orders::ready`]), its last moment has passed, its
-/// object is not the one that its page showed, the device did not say so within the last 2,000 ms when it was asked
-/// behind the order (at most 5,000 ms before the order's last moment), or the link refuses the command; then nothing is
-/// changed or sent.
+/// object is not the one that its page showed, the device did not say so within the last 2,000 ms when it was asked after
+/// the order's request was read (5,000 ms before the order's last moment), or the link refuses the command; then nothing
+/// is changed or sent.
 pub fn submit_first<E: End>(
     orders: &mut Orders,
     known: &[Object],
@@ -286,15 +284,12 @@ pub fn submit_first<E: End>(
         return false;
     };
     let now = panel.end().now();
-    if order.last < ahead || order.last - ahead < now || !is_read(known, &order, ahead + now) {
-        return false;
-    }
-    if !is_all_behind(known, &order) {
+    if order.last < ahead || order.last - ahead < now || !is_confirmed(known, &order, ahead + now) {
         return false;
     }
     match panel.begin_request(order.ono, order.action.class(), &order.action.request()) {
         Ok(handle) => {
-            orders.note_sent(order, handle);
+            orders.note_submitted(order, handle);
             true
         }
         Err(_) => false,
@@ -319,6 +314,25 @@ pub fn submit_orders<E: End>(
     }
 }
 
+/// An order in flight whose outcome was taken.
+#[derive(Clone, Copy, PartialEq, Eq)]
+pub struct SettledOrder {
+    /// The order, with the handle of its command.
+    pub sent: OrderInFlight,
+    /// `Ok` if the order was carried out, otherwise why not.
+    pub done: Result<(), Trouble>,
+}
+
+impl Default for SettledOrder {
+    /// An order that nobody gave.
+    fn default() -> Self {
+        SettledOrder {
+            sent: OrderInFlight::default(),
+            done: Err(Trouble::Unanswered),
+        }
+    }
+}
+
 /// Takes the outcome of the order at index `at` of those in flight, and stores its result under its ticket. Returns the
 /// order, which is then no longer in flight, and its outcome. The result is `None` if the outcome is not known yet, or
 /// there is no such order; then nothing is changed. The call sends nothing and does not wait.
@@ -326,48 +340,32 @@ pub fn settle_at<E: End>(
     orders: &mut Orders,
     panel: &mut Panel<E>,
     at: usize,
-) -> Option<(Sent, Result<(), Trouble>)>
+) -> Option<SettledOrder>
     ensures { SettlesAt at result orders.old panel.old orders.new panel.new }
 {
     let sent = orders.in_flight.as_slice().get(at).copied()?;
     let outcome = panel.try_finish(sent.handle)?;
     let done = done_in(&outcome);
     orders.settle(at, &sent, done);
-    Some((sent, done))
-}
-
-/// An order in flight whose outcome was taken.
-#[derive(Clone, Copy, PartialEq, Eq)]
-pub struct Settled {
-    /// The order, with the handle of its command.
-    pub sent: Sent,
-    /// `Ok` if the order was carried out, otherwise why not.
-    pub done: Result<(), Trouble>,
-}
-
-impl Default for Settled {
-    /// An order that nobody gave.
-    fn default() -> Self {
-        Settled {
-            sent: Sent::default(),
-            done: Err(Trouble::Unanswered),
-        }
-    }
+    Some(SettledOrder { sent, done })
 }
 
 /// Takes the outcome of each order in flight whose outcome is known, and stores its result under its ticket. The
 /// outcome is known if the command was answered, and of all orders if the link is lost. Returns these orders with their
 /// outcomes, from 0 to 32; the others stay in flight. The call sends nothing, does not wait and takes no memory.
 #[tactic(auto, using(crate::proofs::StepLemmas::settle_rules))]
-pub fn settle_orders<E: End>(orders: &mut Orders, panel: &mut Panel<E>) -> ArrayVec<Settled, 32>
+pub fn settle_orders<E: End>(
+    orders: &mut Orders,
+    panel: &mut Panel<E>,
+) -> ArrayVec<SettledOrder, 32>
     ensures { SettlesOrders orders.old panel.old orders.new panel.new }
 {
     let mut all = ArrayVec::new();
     let mut at = 0usize;
     for _order in 0..orders.in_flight() {
         match settle_at(orders, panel, at) {
-            Some((sent, done)) => {
-                let _ = all.try_push(Settled { sent, done });
+            Some(settled) => {
+                let _ = all.try_push(settled);
             }
             None => at = at.saturating_add(1),
         }

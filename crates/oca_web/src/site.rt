@@ -4,9 +4,9 @@ ghost use Rattle.http_header.specs.FieldValue.{is_visible_text};
 ghost use Rattle.oca_web.specs.Sites.{last_moment_for};
 
 use crate::admission::{Key, Terms, admit};
-use crate::answers::{MOST_RANGES, Range, Told, tickets_json, tree_json, values_json};
-use crate::many::{Refusal, orders_in};
-use crate::order::{ORDER_MS, Wanted};
+use crate::answers::{MOST_RANGES, PlaceRange, ValuesQuery, tickets_json, tree_json, values_json};
+use crate::body::{OrderBody, Refusal, orders_in};
+use crate::order::ORDER_MS;
 use crate::page::{PAGE, POLICY};
 use crate::view::View;
 use arrayvec::ArrayVec;
@@ -16,14 +16,11 @@ use http_server::{Response, Service};
 use itoa::Buffer;
 use std::alloc::{AllocError, Global};
 
-/// What a request without the token is told.
+/// The answer to a request without the token.
 const WHERE_TO_GO: &str = "open the address that ocapanel printed\n";
 
-/// What an order is told where none is taken.
+/// The answer to an order if the panel only shows values.
 const READ_ONLY: &str = "{\"read_only\":true}";
-
-/// The status of the answer to a request; or memory was refused, and the answer is 503.
-type Answered = Result<StatusCode, AllocError>;
 
 /// The HTTP service over a view, by the rules of the panel. A connection of `http_server` calls it for each request.
 #[derive(Drop)]
@@ -85,8 +82,13 @@ impl Site {
         self.admitted
     }
 
-    /// Answers a request: one that is not let in with its refusal, and one without the token is told where to get it.
-    fn respond(&mut self, request: &Request<Bytes>, response: &mut Response) -> Answered
+    /// Answers a request, and returns the status. A request that is not let in is refused; without the token it is told
+    /// where to go.
+    fn respond(
+        &mut self,
+        request: &Request<Bytes>,
+        response: &mut Response,
+    ) -> Result<StatusCode, AllocError>
         ensures { AnswersOrFails result self.old request.now self.new }
     {
         protect(response)?;
@@ -105,8 +107,13 @@ impl Site {
         self.get(path, request, response)
     }
 
-    /// Answers a request that reads.
-    fn get(&mut self, path: &str, request: &Request<Bytes>, response: &mut Response) -> Answered
+    /// Answers a request of any method but POST.
+    fn get(
+        &mut self,
+        path: &str,
+        request: &Request<Bytes>,
+        response: &mut Response,
+    ) -> Result<StatusCode, AllocError>
         ensures { KeepsOrders result self.old self.new }
     {
         let method = request.method().as_str();
@@ -125,9 +132,9 @@ impl Site {
         }
     }
 
-    /// Answers with the page, and gives the token in a cookie where there is one. Scripts can't read it, and a browser
-    /// sends it only with requests that a page of the same host makes (the port does not count).
-    fn get_page(&self, response: &mut Response) -> Answered
+    /// Answers with the page, and with the token as a cookie, if there is one. Scripts can't read it, and a browser sends
+    /// it only with requests that a page of the same host makes (the port does not count).
+    fn get_page(&self, response: &mut Response) -> Result<StatusCode, AllocError>
         ensures { IfOk result (λ status. status ≡ 200) }
     {
         if let Some(key) = self.terms.key.as_ref() {
@@ -142,8 +149,12 @@ impl Site {
         Ok(StatusCode::OK)
     }
 
-    /// Answers with what changed, to a page that is open: to one of another run with all.
-    fn get_values(&mut self, query: Option<&str>, response: &mut Response) -> Answered
+    /// Answers with what changed since the page asked last, and with all if it asked another run of the program.
+    fn get_values(
+        &mut self,
+        query: Option<&str>,
+        response: &mut Response,
+    ) -> Result<StatusCode, AllocError>
         ensures orders { self.new.view.orders ≡ self.old.view.orders }
         ensures terms { self.new.terms ≡ self.old.terms }
         ensures status { IfOk result (λ status. status ≡ 200) }
@@ -158,19 +169,22 @@ impl Site {
             Some(run) if run != own => None,
             _ => query,
         };
-        let told = Told {
+        let wanted = ValuesQuery {
             ranges: ranges.as_slice(),
-            run: self.terms.run,
-            read_only: self.terms.read_only,
             since: number_in(known, "since"),
             ticket: number_in(known, "told"),
         };
-        let text = values_json(self.alloc, &self.view, &told)?;
+        let text = values_json(self.alloc, &self.view, &self.terms, &wanted)?;
         put_json(StatusCode::OK, text.as_slice(), response)
     }
 
-    /// Answers a request that orders something.
-    fn post(&mut self, path: &str, body: &[u8], response: &mut Response) -> Answered
+    /// Answers a POST.
+    fn post(
+        &mut self,
+        path: &str,
+        body: &[u8],
+        response: &mut Response,
+    ) -> Result<StatusCode, AllocError>
         ensures { Posts path.now body.now result self.old self.new }
     {
         if self.terms.read_only {
@@ -178,7 +192,7 @@ impl Site {
         }
         match path {
             "/orders" => match orders_in(self.alloc, &self.view, self.terms.run, body) {
-                Ok((wanted, given)) => self.order(wanted.as_slice(), given, response),
+                Ok(body) => self.order(&body, response),
                 Err(refusal) => put_refusal(self.alloc, refusal, response),
             },
             "/" | "/tree" | "/values" => forbid_method("GET, HEAD", response),
@@ -186,17 +200,18 @@ impl Site {
         }
     }
 
-    /// Takes orders, and answers with their tickets. Where memory is refused none is taken.
-    fn order(&mut self, wanted: &[Wanted], given: Option<u64>, response: &mut Response) -> Answered
-        ensures { TakesOrders result wanted.now given self.old self.new }
+    /// Adds the orders of a body, and answers with their tickets. If memory is refused, none is added.
+    fn order(&mut self, body: &OrderBody, response: &mut Response) -> Result<StatusCode, AllocError>
+        ensures { TakesOrders result body.now.orders.items body.now.before self.old self.new }
     {
-        if !self.view.has_room(wanted.len()) {
+        let orders = body.orders.as_slice();
+        if !self.view.orders().has_room(orders.len()) {
             return Ok(StatusCode::SERVICE_UNAVAILABLE);
         }
-        let text = tickets_json(self.alloc, self.view.next_ticket(), wanted.len())?;
+        let text = tickets_json(self.alloc, self.view.next_ticket(), orders.len())?;
         let _ = put_json(StatusCode::ACCEPTED, text.as_slice(), response)?;
-        let last = last_moment(self.view.moment(), given, self.doubts);
-        match self.view.order_all(wanted, last) {
+        let last = last_moment(self.view.moment(), body.before, self.doubts);
+        match self.view.order_all(orders, last) {
             Some(_) => Ok(StatusCode::ACCEPTED),
             None => Ok(StatusCode::SERVICE_UNAVAILABLE),
         }
@@ -227,20 +242,20 @@ impl Service for Site {
     }
 }
 
-/// The last moment at which an order may be submitted whose request is read at this moment and gives this one. `doubts`
-/// says that the request may have waited while the program was suspended.
-fn last_moment(now: u64, given: Option<u64>, doubts: bool) -> u64
-    ensures { result ≡ last_moment_for now given doubts }
+/// The last moment at which an order may be submitted whose request is read at `now` and gives the moment `before`.
+/// `doubts` says that the request may have waited while the program was suspended.
+fn last_moment(now: u64, before: Option<u64>, doubts: bool) -> u64
+    ensures { result ≡ last_moment_for now before doubts }
 {
     let latest = now.saturating_add(ORDER_MS);
-    match given {
+    match before {
         Some(moment) => moment.min(latest),
         None if doubts => 0,
         None => latest,
     }
 }
 
-/// Puts what every answer asks of the browser: not to cache it, not to guess its type, and to give it to no other page.
+/// Adds the header fields of every answer: not to cache it, not to guess its type, and to give it to no other page.
 fn protect(response: &mut Response) -> Result<(), AllocError> {
     put_field(response, header::CACHE_CONTROL, "no-store")?;
     put_field(response, header::X_CONTENT_TYPE_OPTIONS, "nosniff")?;
@@ -250,7 +265,7 @@ fn protect(response: &mut Response) -> Result<(), AllocError> {
     put_field(response, policy, "same-origin")
 }
 
-/// Puts a header field behind those before it.
+/// Adds a header field.
 fn put_field(
     response: &mut Response,
     name: HeaderName,
@@ -261,8 +276,8 @@ fn put_field(
     response.add_header(name, HeaderValue::from_static(value))
 }
 
-/// Refuses a method, and says which ones there are.
-fn forbid_method(allowed: &'static str, response: &mut Response) -> Answered
+/// Refuses a method with 405, and lists the allowed ones.
+fn forbid_method(allowed: &'static str, response: &mut Response) -> Result<StatusCode, AllocError>
     requires { IsTrue (is_visible_text allowed.now) }
     ensures { IfOk result (λ status. status ≡ 405) }
 {
@@ -270,7 +285,7 @@ fn forbid_method(allowed: &'static str, response: &mut Response) -> Answered
     Ok(StatusCode::METHOD_NOT_ALLOWED)
 }
 
-/// The text that a query gives under this name.
+/// The text of a query's parameter with this name.
 fn text_in<'a>(query: Option<&'a str>, name: &str) -> Option<&'a str> {
     for part in query?.split('&') {
         if let Some((key, text)) = part.split_once('=')
@@ -282,24 +297,24 @@ fn text_in<'a>(query: Option<&'a str>, name: &str) -> Option<&'a str> {
     None
 }
 
-/// The number that a query gives under this name; 0 where it gives none.
+/// The number of a query's parameter with this name, and 0 if it has none.
 fn number_in(query: Option<&str>, name: &str) -> u64 {
     text_in(query, name).map_or(0, |digits| digits.parse::<u64>().unwrap_or(0))
 }
 
-/// The ranges of places that a page shows, by its query: at most eight, as `0-12,40-8`, or one by its first place and
-/// how many.
-fn ranges_in(query: Option<&str>) -> ArrayVec<Range, MOST_RANGES> {
+/// The ranges of objects that a page shows by its query: at most eight in `shown`, such as `0-12,40-8` (each the first
+/// place and the number of objects), or one in `first` and `count`.
+fn ranges_in(query: Option<&str>) -> ArrayVec<PlaceRange, MOST_RANGES> {
     let mut ranges = ArrayVec::new();
     let Some(shown) = text_in(query, "shown") else {
         let first = place_in(text_in(query, "first").unwrap_or(""));
         let count = place_in(text_in(query, "count").unwrap_or(""));
-        let _ = ranges.try_push(Range { first, count });
+        let _ = ranges.try_push(PlaceRange { first, count });
         return ranges;
     };
     for range in shown.split(',') {
         let (first, count) = range.split_once('-').unwrap_or(("", ""));
-        let _ = ranges.try_push(Range {
+        let _ = ranges.try_push(PlaceRange {
             first: place_in(first),
             count: place_in(count),
         });
@@ -307,16 +322,20 @@ fn ranges_in(query: Option<&str>) -> ArrayVec<Range, MOST_RANGES> {
     ranges
 }
 
-/// A number of places, at most 65,535; 0 where it is no number.
+/// A number of at most 65,535, and 0 if it is no number.
 fn place_in(digits: &str) -> usize {
     digits.parse::<u64>().unwrap_or(0).min(65_535) as usize
 }
 
-/// Refuses many orders: where one of them is the reason, its index is said.
-fn put_refusal(alloc: Global, refusal: Refusal, response: &mut Response) -> Answered
+/// Refuses orders, with the index of the one that is the reason, if it is one.
+fn put_refusal(
+    alloc: Global,
+    refusal: Refusal,
+    response: &mut Response,
+) -> Result<StatusCode, AllocError>
     ensures { IfOk result (λ status. status ≢ 202) }
 {
-    let status = refusal.wrong.status();
+    let status = refusal.fault.status();
     let Some(at) = refusal.at else {
         return Ok(status);
     };
@@ -325,7 +344,11 @@ fn put_refusal(alloc: Global, refusal: Refusal, response: &mut Response) -> Answ
 }
 
 /// Answers with this status and JSON.
-fn put_json(status: StatusCode, text: &[u8], response: &mut Response) -> Answered
+fn put_json(
+    status: StatusCode,
+    text: &[u8],
+    response: &mut Response,
+) -> Result<StatusCode, AllocError>
     ensures { IfOk result (λ answered. answered ≡ status) }
 {
     put_field(response, header::CONTENT_TYPE, "application/json")?;

@@ -75,7 +75,7 @@ impl<'c, R: Net + RandomSource + Files, N: Net + Clock, W: Sink, F: Sink> EventL
                 )?;
                 self.change_socket(reached)?;
             }
-            let losses = self.site.view().news().lost;
+            let losses = self.site.view().link().lost;
             if self.losses != losses {
                 self.losses = losses;
                 self.follow_address()?;
@@ -165,7 +165,7 @@ impl<'c, R: Net + RandomSource + Files, N: Net + Clock, W: Sink, F: Sink> EventL
     /// have an unknown age.
     fn advance_clock(&mut self) {
         let end = self.panel.end();
-        if self.site.view().note(end.end().now(), end.sent) {
+        if self.site.view().note_moment(end.end().now(), end.sent) {
             self.clients.doubts = true;
         }
     }
@@ -200,8 +200,8 @@ impl<'c, R: Net + RandomSource + Files, N: Net + Clock, W: Sink, F: Sink> EventL
     /// If `--verbose` is given, prints when the device is lost, with the local address if the machine has lost that, and
     /// when it is heard again.
     fn print_link_change(&mut self) {
-        let news = self.site.view().news();
-        let is_lost = news.lost_since.is_some();
+        let link = self.site.view().link();
+        let is_lost = link.lost_since.is_some();
         if !self.options.verbose || is_lost == self.was_lost {
             return;
         }
@@ -218,7 +218,7 @@ impl<'c, R: Net + RandomSource + Files, N: Net + Clock, W: Sink, F: Sink> EventL
                 print_made_note(format!(in alloc; "the address {ip} is gone"), faults);
             }
         } else {
-            let lost = news.lost;
+            let lost = link.lost;
             let note = format!(in alloc;
                 "the device is heard again; {lost} sessions were lost so far"
             );

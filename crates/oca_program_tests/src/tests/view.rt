@@ -6,7 +6,7 @@ use crate::tests::{Row, Said, all_agree};
 use oca_net::MemoryEnd;
 use oca_panel::Panel;
 use oca_types::{Handle, Ono, Packet, Peer, Span};
-use oca_web::{Action, Read, View, Wanted};
+use oca_web::{Action, Identity, NewOrder, View};
 use std::alloc::Global;
 
 const DEVICE: Peer = Peer {
@@ -96,9 +96,9 @@ fn took(end: &MemoryEnd, wanted: &[(u32, u32)], said: &mut Said) -> bool {
 
 /// Takes an order.
 fn takes_order(view: &mut View, said: &mut Said) -> bool {
-    let wanted = Wanted {
+    let wanted = NewOrder {
         ono: Ono(100),
-        read: Read::default(),
+        identity: Identity::default(),
         action: Action::Lock,
     };
     view.order_all(&[wanted], u64::MAX).is_some() && said.same(view.next_ticket(), 2)
@@ -204,9 +204,9 @@ impl Hearing {
     /// Whether a view that was made at 0 ms tells so behind a turn.
     fn is_told(&self, view: &mut View, end: MemoryEnd, said: &mut Said) -> bool {
         let mut panel = Panel::open(DEVICE, end, Handle(FIRST), Span::default(), 0);
-        view.news().heard.is_none()
+        view.link().heard.is_none()
             && view.take_turn(&mut panel).is_ok()
-            && said.same(view.news().heard, self.heard)
+            && said.same(view.link().heard, self.heard)
     }
 }
 

@@ -1,5 +1,5 @@
 use Rattle.oca_web.proofs.OrderLemmas.{AddedSoFar}
 use Rattle.oca_web.proofs.orders.Orders.add_all.Given as goal
 
-abbrev pub invariant-loop-one : goal.invariant-loop-one
-invariant-loop-one l = AddedSoFar l.wanted l.last l.one-index l.fn.self l.self
+abbrev pub invariant-loop-order : goal.invariant-loop-order
+invariant-loop-order l = AddedSoFar l.wanted l.last l.order-index l.fn.self l.self

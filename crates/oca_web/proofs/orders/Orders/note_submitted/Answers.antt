@@ -1,7 +1,7 @@
 use Rattle.std.proofs.Common.{ap, sym}
 use Rattle.oca_web.specs.Orders.{OrdersState}
 use Rattle.oca_web.proofs.OrderLemmas.{taken_first}
-use Rattle.oca_web.proofs.orders.Orders.note_sent.Goals as goal
+use Rattle.oca_web.proofs.orders.Orders.note_submitted.Goals as goal
 
 pub returns-clause-first : goal.returns-clause-first
 returns-clause-first c =
