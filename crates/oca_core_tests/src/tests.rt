@@ -36,8 +36,8 @@ use std::alloc::Global;
 use std::fmt::{Debug, Display, Write};
 use std::process::Abort;
 
-/// What is said of a row that comes out otherwise: the script that is played and its step, and what was found in place
-/// of what must be.
+/// What is said of a row that comes out otherwise: the script that is played and its step, or the number of the row, and
+/// what was found in place of what must be.
 #[derive(Drop)]
 struct Said {
     alloc: Global,
@@ -51,7 +51,7 @@ impl Said {
     fn new(alloc: Global) -> Said {
         Said {
             alloc,
-            script: "",
+            script: "row",
             step: 0,
             text: String::new(alloc),
         }
@@ -86,25 +86,23 @@ trait Row {
 fn all_agree<A: Abort + AllocGlobal, R: Row>(rt: &A, table: &str, rows: &[R]) {
     let mut said = Said::new(rt.alloc());
     for (at, row) in rows.iter().enumerate() {
+        said.step = at;
         said.text.clear();
         if !row.agrees(&mut said) {
-            fail(rt, table, at, &said);
+            fail(rt, table, &said);
         }
     }
 }
 
-/// A row of the table of this name came out otherwise.
-fn fail(rt: &impl Abort, table: &str, row: usize, said: &Said) {
+/// Something came out otherwise in the table of this name.
+fn fail(rt: &impl Abort, table: &str, said: &Said) {
     let (script, step) = (said.script, said.step);
     let text = if said.text.is_empty() {
         "something else comes of it"
     } else {
         said.text.as_str()
     };
-    if script.is_empty() {
-        panic!(rt; "{table}: row {row}: {text}");
-    }
-    panic!(rt; "{table}: {script}: step {step}: {text}");
+    panic!(rt; "{table}: {script} {step}: {text}");
 }
 
 /// A step of a script: what is done with something, or is seen of it, and what must come of that.

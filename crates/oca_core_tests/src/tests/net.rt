@@ -132,7 +132,9 @@ fn play<'a, 's, C: Agrees<Machine<'a>>>(
 ) {
     for script in scripts {
         if let Some(step) = wrong_call(rt, script.1) {
-            fail(abort, script.0, step, &Said::new(rt.alloc()));
+            let mut said = Said::new(rt.alloc());
+            said.step = step;
+            fail(abort, script.0, &said);
         }
     }
 }

@@ -1,28 +1,38 @@
-//! Schedules over the bench device. What is expected is that of the profile's worked examples, and never the program's
-//! own output. A schedule is a list of steps with what each must lead to, and an assertion tells which of them led to
-//! something else.
-mod cases;
-mod schedules;
+//! What no clause and no schedule of `tools/world.py` says: that the laws can be called, the numbers of faults, and a
+//! device and a link at sockets.
 mod turns;
 
 use crate::tests::{Said, fail};
-use oca_types::Peer;
-
-/// The peer of the first link.
-pub const A: Peer = peer!(9001);
-
-/// A peer without a link.
-pub const B: Peer = peer!(9002);
-
-/// GetState of 4097 under handle 1.
-pub const GET: &[u8] = &[
-    0x3b, 0, 1, 0, 0, 0, 0x1a, 1, 0, 1, 0, 0, 0, 0x11, 0, 0, 0, 1, 0, 0, 0x10, 1, 0, 4, 0, 1, 0,
-];
+use oca_pair::{
+    PairFault, law_answered_in_time, law_answers, law_getting_through, law_never_old,
+    law_of_what_is_said, law_once_in_time, law_round_trip,
+};
+use oca_promise::{law_of_calls, law_of_flights};
 
 #[test]
 fn a_device_and_a_link_go_on_turn_by_turn(rt: HostRuntime) {
     let mut said = Said::new(rt.alloc());
     if !turns::agree(&rt, &mut said) {
-        fail(&rt, "a device and a link", 0, &said);
+        fail(&rt, "a device and a link", &said);
     }
+}
+
+#[test]
+fn the_laws_can_be_called() {
+    law_answers();
+    law_never_old();
+    law_round_trip();
+    law_getting_through();
+    law_once_in_time();
+    law_answered_in_time();
+    law_of_what_is_said();
+    law_of_calls();
+    law_of_flights();
+}
+
+#[test]
+fn faults_have_numbers(rt: HostRuntime) {
+    assert_eq!(rt; PairFault::NoMemory.number(), 1);
+    assert_eq!(rt; PairFault::BadStep(7).number(), 2);
+    assert_eq!(rt; PairFault::SamePeer.number(), 3);
 }

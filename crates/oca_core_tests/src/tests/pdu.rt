@@ -1,5 +1,5 @@
 //! What no clause says: datagrams from outside, and each call once.
-mod building;
+mod checking;
 mod examples;
 mod extending;
 mod faults;

@@ -12,6 +12,10 @@ pub enum Part {
     Bytes(&'static [u8]),
     /// These bytes so many times.
     Times(u32, &'static [u8]),
+    /// So many of the first bytes.
+    Front(&'static [u8], usize),
+    /// These bytes, with others in place of those from an index on.
+    Changed(&'static [u8], usize, &'static [u8]),
     /// A command PDU of this type: its handle, target, DefLevel and MethodIndex, and the bytes of at most one
     /// parameter.
     Command(u8, u32, u32, (u8, u8), &'static [u8]),
@@ -40,6 +44,14 @@ fn put(bytes: &mut Bytes, more: &[u8]) {
 fn put_times(bytes: &mut Bytes, count: u32, more: &[u8]) {
     for _at in 0..count {
         put(bytes, more);
+    }
+}
+
+/// Adds bytes, with others in place of those from `at` on.
+fn put_changed(bytes: &mut Bytes, more: &[u8], at: usize, with: &[u8]) {
+    for (i, byte) in more.iter().enumerate() {
+        let other = if i < at { None } else { with.get(i - at) };
+        let _ = bytes.try_push(*other.unwrap_or(byte));
     }
 }
 
@@ -112,6 +124,8 @@ fn put_part(bytes: &mut Bytes, part: Part) {
     match part {
         Part::Bytes(more) => put(bytes, more),
         Part::Times(count, more) => put_times(bytes, count, more),
+        Part::Front(more, length) => put(bytes, more.get(..length).unwrap_or_default()),
+        Part::Changed(more, at, with) => put_changed(bytes, more, at, with),
         other => put_pdu(bytes, other),
     }
 }

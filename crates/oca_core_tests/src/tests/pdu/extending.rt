@@ -2,7 +2,7 @@
 ghost use Rattle.std.specs.Prelude.{IfSome};
 ghost use Rattle.oca_pdu.specs.Writing.{HoldsResponses};
 
-use super::building::messages_in;
+use super::checking::messages_in;
 use crate::tests::answers::{Answer, reply};
 use crate::tests::{Row, Said};
 use oca_pdu::{WriteFault, extend_response, write_response};

@@ -1,8 +1,8 @@
 //! Packets that are full, and packets that are written over.
-use super::building::messages_in;
+use super::checking::messages_in;
 use super::examples::{GET_STATE, MUTED, ONE_SECOND, SETTING};
 use crate::tests::answers::{Answer, reply};
-use crate::tests::{Row, Said};
+use crate::tests::{Agrees, Row, Said, plays};
 use oca_pdu::{
     Form, WriteFault, holds_responses, replace_response, write_command, write_keepalive,
     write_response,
@@ -77,34 +77,32 @@ fn replace(packet: &mut Packet, handle: u32, answer: Answer) -> bool {
     true
 }
 
-/// Whether the step is answered so.
-fn is_done(packet: &mut Packet, step: Step, said: &mut Said) -> bool {
-    match step {
-        Bytes(bytes) => packet.try_extend_from_slice(bytes).is_ok(),
-        Commands(times, answer) => writes_commands(packet, times, answer, said),
-        Response(handle, parts, answer) => said.same(write_answer(packet, handle, parts), answer),
-        KeepAlive(form, answer) => said.same(write_keepalive(packet, form), answer),
-        Replace(handle, parts) => replace(packet, handle, parts),
-        Holds(bytes) => said.same(packet.as_slice(), bytes),
-        Len(length) => said.same(packet.len(), length),
-        Messages(count) => said.same(messages_in(packet.as_slice()), count),
-        OfResponses(answer) => said.same(holds_responses(packet), answer),
+impl Agrees<Packet> for Step {
+    /// Whether the step is answered so.
+    fn agrees(&self, packet: &mut Packet, said: &mut Said) -> bool {
+        match *self {
+            Bytes(bytes) => packet.try_extend_from_slice(bytes).is_ok(),
+            Commands(times, answer) => writes_commands(packet, times, answer, said),
+            Response(handle, parts, answer) => {
+                said.same(write_answer(packet, handle, parts), answer)
+            }
+            KeepAlive(form, answer) => said.same(write_keepalive(packet, form), answer),
+            Replace(handle, parts) => replace(packet, handle, parts),
+            Holds(bytes) => said.same(packet.as_slice(), bytes),
+            Len(length) => said.same(packet.len(), length),
+            Messages(count) => said.same(messages_in(packet.as_slice()), count),
+            OfResponses(answer) => said.same(holds_responses(packet), answer),
+        }
     }
 }
 
-/// What is done to a packet, step by step.
-pub struct Script(&'static [Step]);
+/// What is done to a packet, step by step, by its name.
+pub struct Script(&'static str, &'static [Step]);
 
 impl Row for Script {
     /// Whether each step is answered so.
     fn agrees(&self, said: &mut Said) -> bool {
-        let mut packet = Packet::new();
-        for step in self.0 {
-            if !is_done(&mut packet, *step, said) {
-                return false;
-            }
-        }
-        true
+        plays(&mut Packet::new(), self.0, self.1, said)
     }
 }
 
@@ -182,9 +180,9 @@ const OF_KEEP_ALIVE: &[Step] = &[
 
 /// The scripts.
 pub const SCRIPTS: &[Script] = &[
-    Script(FULL),
-    Script(REPLACED),
-    Script(OF_COMMANDS),
-    Script(OF_RESPONSES),
-    Script(OF_KEEP_ALIVE),
+    Script("a_full_packet_stays_as_it_is", FULL),
+    Script("a_response_takes_the_place_of_a_packet", REPLACED),
+    Script("a_command_is_the_worked_example", OF_COMMANDS),
+    Script("a_response_is_the_worked_example", OF_RESPONSES),
+    Script("a_keep_alive_is_the_worked_example", OF_KEEP_ALIVE),
 ];
