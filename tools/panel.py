@@ -405,7 +405,7 @@ class Desk(Bench):
             "another": lambda *asked: Peer(self.device.port).status(*asked[:3], *map(bytes.fromhex, asked[3:])),
             "ocactl": lambda words: ocactl(self.device.port, *words.split()),
             "fares": lambda path, ono, value=None, more={}: self.panel.fare(path, ono, value, **nulls(more)),
-            "fares at last": self.fares_at_last,
+            "fare at last": self.fare_at_last,
             "so many fare": lambda count, *order: sorted({self.panel.fare(*order) for _ in range(count)}, key=str),
             "fare": lambda *orders: self.panel.settled(self.panel.orders(*orders)[1]["tickets"]),
             "ordered": lambda ono, value: self.panel.order("/set", ono, value)[1],
@@ -421,7 +421,6 @@ class Desk(Bench):
             "fares on another": self.fares_on_another,
             "how 150 fare": self.fares_at_once,
             "settled": lambda tickets: self.panel.settled(tickets),
-            "settled up to": lambda last, count: self.panel.settled([*range(last - count + 1, last + 1)]),
             "told from the first on": lambda: [[*it.values()] for it in self.panel.get("/values?since=0&told=1")["told"]],
             "tickets told": self.tickets_told,
             "told": lambda ticket: self.panel.settled([ticket], 0)[0],
@@ -602,10 +601,15 @@ class Desk(Bench):
         """The statuses of the answers to so many orders: each with how many in a row have it."""
         return [[status, len([*those])] for status, those in itertools.groupby(self.panel.order(*order)[0] for _ in range(count))]
 
-    def fares_at_last(self, *order):
-        """How an order fares that is given again where a busy machine let it wait past its last moment, so that it was not sent."""
-        fared = (self.panel.fare(*order) for _ in range(9))
-        return next((one for one in fared if one != "not sent: too late"), "not sent: too late")
+    def fare_at_last(self, *orders):
+        """How orders fare that are given one by one. They are given again, up to eight times, only if a busy machine let one wait past its last moment,
+        5 s after it was given, so that it was not sent; and if all others were carried out."""
+        for _ in range(9):
+            given, tickets = time.monotonic(), [self.panel.order(*one)[1] for one in orders]
+            fared = self.panel.settled(tickets)
+            if "not sent: too late" not in fared or not {*fared} <= {None, "not sent: too late"} or time.monotonic() - given < 5:
+                break
+        return fared
 
     def fares_at_once(self):
         """How 150 orders fare that are sent at once: 64 that mute and unmute eight channels, and 86 of their trims, of which the last sets 21. Those of a
