@@ -9,8 +9,8 @@ impl<E: End> Panel<E> {
     ghost use Rattle.oca_panel.specs.Beginnings.{BeginsAsking};
 
     /// Submits the request `asked` to the object `ono`, which is of the class `class`, sends it at once, and returns
-    /// its handle, for [`finish`](Panel::finish). [`answer_of`] reads the answer from the outcome. The object's class
-    /// is not asked. If the link becomes lost in this call, the handle is returned and the command is not sent. A send
+    /// its handle, for [`finish`](Panel::finish). [`answer_of`](crate::answer_of) reads the answer from the outcome. The
+    /// object's class is not asked. If the link becomes lost in this call, the handle is returned and the command is not sent. A send
     /// that fails is not reported: the link sends the command again after 250 ms.
     ///
     /// Refusals, the first that applies, which change and send nothing. `NoValue` if the class has no method for the

@@ -25,9 +25,10 @@ mod renewal;
 /// - The link is *lost* once a command got no answer to 20 transmissions. The link is *late* while a command that was
 ///   submitted more than 15,000 ms ago has no answer. A lost or late link takes no new command.
 /// - The *faults of a command* are these of [`Trouble`](crate::Trouble): `NotSubmitted` with the reason if the link
-///   refuses the command ([`begin`](Panel::begin)): nothing is sent. `Lost` if the link becomes lost or late before an
-///   answer comes, and `Unanswered` if no answer comes in time: the command then stays in flight, and the device may
-///   have carried it out, or may still do that. `Refused` with the status if the status of the answer is not OK.
+///   refuses the command ([`begin`](Panel::begin)), which is then not sent. `Lost` if the link becomes lost or late
+///   before an answer comes, and `Unanswered` if no answer comes in time: after both the command stays in flight, and
+///   the device may have carried it out, or may still do that. `Refused` with the status if the status of the answer is
+///   not OK.
 ///
 /// ```
 /// let end = UdpEnd::bind_towards(rt.alloc(), rt, device, 0)?;

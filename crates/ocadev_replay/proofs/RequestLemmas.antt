@@ -20,7 +20,7 @@ request-of_four s a b c o1 o2 o3 r1 r2 r3 f1 e1 f2 e2 f3 e3 =
     let three : fields s ≡ a ∷ b ∷ c ∷ fields r3 = g1 ∙ ap (λ (fs : List (List ℕ)). a ∷ fs) (g2 ∙ ap (λ (fs : List (List ℕ)). b ∷ fs) g3) in
     ap asked_event (three ∙ ap (λ (fs : List (List ℕ)). a ∷ b ∷ c ∷ fs) (fields-some r3).are)
 
--- ---- a datagram's line in one pass
+-- ---- a datagram's line
 
 -- what writes a peer is not the word of a clock reading
 not_quiet : (text : List ℕ) (peer : Peer) → peer_of text ≡ Some peer → is_quiet text ≡ false

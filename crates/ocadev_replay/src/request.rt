@@ -83,8 +83,8 @@ fn parse_datagram<'a>(
     Ok(ScriptEvent::Datagram { now, from, bytes })
 }
 
-/// The moment and the peer of a datagram's line, and what stands after them, read in one pass. `None` where the line
-/// does not begin with both, each before a space.
+/// The moment and the peer at the beginning of a datagram's line, and what stands after them. `None` where the line does
+/// not begin with both, each before a space.
 fn moment_and_peer(line: &[u8]) -> Option<(u64, Peer, &[u8])>
     ensures read { begun result ≡ moment_and_peer_of line.now }
     ensures value { IfSome result (λ p. asked_event (fields line.now) ≡ datagram_after p.0 p.1 (fields p.2.now)) }
@@ -95,7 +95,7 @@ fn moment_and_peer(line: &[u8]) -> Option<(u64, Peer, &[u8])>
     Some((now, from, rest))
 }
 
-/// Reads what a line of a device's script asks for, in one pass where it is a datagram: `N P HEX` is a datagram of the
+/// Reads what a line of a device's script asks for: `N P HEX` is a datagram of the
 /// peer P at the moment N, and `N quiet` a reading of the clock. Moments are in milliseconds. The line has at most
 /// 4,096 bytes (a premise, which the caller must prove). The bytes of a datagram are written to the front of `room`,
 /// and the result refers to them. The call takes no memory. Refusals, the first that applies; discard what `room`
