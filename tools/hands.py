@@ -85,6 +85,24 @@ class Missing(Served):
         return is_known
 
 
+class Beset(Served):
+    """A device before whose answer to each question about a role a stranger's comes to the controller, which says OK."""
+
+    def __init__(self, tree):
+        super().__init__(tree)
+        self.stranger = bound()
+
+    def datagram(self, peer, data, now):
+        for command, method in commands_in(data):
+            if method == (1, 5):
+                self.stranger.sendto(oca.response(command.handle, 0), (".".join(map(str, peer[:4])), peer[4]))
+        return super().datagram(peer, data, now)
+
+    def __exit__(self, *_):
+        super().__exit__()
+        self.stranger.close()
+
+
 class OldSession(Served):
     """The second implementation's device, with a session of the program's own ports that is ahead of the clock."""
 
@@ -110,7 +128,7 @@ DEVICES = {
                             oca.Object(7000, "mute", 100, "behind", state=1)]),
     "stagebox": lambda: Served(stagebox()), "the second implementation": lambda: Served(stagebox()),
     "in itself": lambda: Forgetful([oca.Object(100, "block", 100, "r")]),
-    "missing": lambda: Missing(stagebox()), "holding": lambda count: Holding(stagebox(), count),
+    "missing": lambda: Missing(stagebox()), "beset": lambda: Beset(stagebox()), "holding": lambda count: Holding(stagebox(), count),
     "deaf": lambda: Deaf(stagebox(), None), "deaf to sets": lambda: Deaf(stagebox(), SETS), "nameless": lambda: Deaf(stagebox(), [(4, 3)]),
     "deaf to numbers": lambda: Deaf(stagebox(), [(5, 2)]), "faint": lambda: Deaf(stagebox(), None, 3),
     "old": lambda: OldSession(stagebox(), by_turns()[:1]), "old twice": lambda: OldSession(stagebox(), by_turns()),
