@@ -217,8 +217,8 @@ fn write_unless_failed<W: Sink>(
     flush_unless_failed(printed, printer)
 }
 
-/// Takes turns while there is no input, and prints the outcomes of commands as soon as that is known: until a read does
-/// not wait, or nothing is to be done any more.
+/// Takes turns while there is no input, and prints the outcomes of commands as soon as they are known: until a read
+/// does not wait, or nothing is to be done any more.
 fn idle<E: End, R: Source, W: Sink>(
     session: &mut Session<E>,
     reader: &mut R,

@@ -41,8 +41,8 @@ pub struct Witness<E: End> {
 }
 
 impl<E: End> Witness<E> {
-    /// Whether this controller can read an object: then no other has it locked. `false` if it is refused, or if no
-    /// answer comes within some 750 ms.
+    /// Whether this controller can read an object: then no other has it locked. The question is sent up to three times.
+    /// `false` if it is refused, or if no answer comes.
     fn can_read(&mut self, ono: Ono) -> bool {
         let handle = self.next;
         self.next = Handle(handle.0.saturating_add(1));
@@ -66,7 +66,8 @@ impl<E: End> Witness<E> {
         false
     }
 
-    /// The status of the answer under this handle, if it comes within 250 ms.
+    /// The status of the device's answer under this handle, if it comes within 250 ms, as one of the first 64 datagrams
+    /// and before a receive fails.
     fn await_status(&mut self, handle: Handle) -> Option<u8> {
         let until = self.end.now().saturating_add(ANSWER_MS);
         let mut packet = Packet::new();

@@ -145,8 +145,8 @@ impl<E: End> Session<E> {
     /// read at the end's present moment. A later line counts as read at the moment of the last submit since that read,
     /// or together with the first line if nothing was submitted since.
     ///
-    /// If the link is lost or late, and no command is in flight, a new link takes its place: the command of this line
-    /// is then sent again. Handles go on behind those of the old link; if these are used up, the link stays.
+    /// If the link is lost or late, and no command is in flight, a new link takes its place, so that commands can be
+    /// sent again. Handles go on behind those of the old link; if these are used up, the link stays.
     pub fn take_up(&mut self)
         ensures { TakesUp self.old self.new }
     {

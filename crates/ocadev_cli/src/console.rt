@@ -102,6 +102,7 @@ impl<N: Net + Clock + Files<File = File>, R: Source, W: Sink, F: Sink> Console<'
 
     /// Binds a socket, and serves the device there until its turns are over. If it keeps its objects in a file, they are
     /// stored there before the first turn. Prints where it listens, and at the end how many sends failed.
+    /// Failures: those of [`bind`], and `Write` if the objects can't be stored.
     fn serve_at_socket<D: Disk + Drop>(
         &mut self,
         options: &ServeOptions<'_>,

@@ -81,7 +81,7 @@ fn tree_of(alloc: Global, path: &str, text: &[u8]) -> Result<Tree, Failure> {
     }
 }
 
-/// Refuses the text of the file at a path if its last line does not say that a device kept `count` objects there.
+/// Refuses the text of the file at a path if it does not end with an [`EndLine`] of so many objects.
 fn check_end(alloc: Global, path: &str, text: &[u8], count: usize) -> Result<(), Failure> {
     let line = format!(in alloc; "{}\n", EndLine(count))?;
     if text.ends_with(line.as_bytes()) {
