@@ -11,7 +11,7 @@ within 100 ms longer than alone; at least half of the datagrams must have been s
 By two links `ocactl` and `ocapanel` set a mute: it is executed, and its answer is lost. Another peer sets it back, and
 the first link goes: with its address or without. A copy may come over the second link only from the first address, if
 that is still there: the command is executed once, whatever the programs say of it. Then `ocapanel` shows by the second
-link what the other peer sets.
+link what the other peer sets, and waits between its turns.
 
 It needs root and `ip` (iproute2); else it says so, and tries nothing. The last line is 'N passed, M failed'."""
 import contextlib
@@ -28,6 +28,7 @@ import time
 import oca_profile as oca
 from checks import Beside, Checks, Serving, bound, ended, read_until, tries, waited
 from network import Relay
+from panel import used_by
 from peers import Peer
 
 NEW_NETWORK = 0x40000000  # CLONE_NEWNET of Linux
@@ -206,6 +207,8 @@ def by_ocapanel(checks, what, keeps_address):
         its = lambda said: (said["link"]["lost_for"], [o.get("value") for o in said["objects"] if o["ono"] == MUTE])
         waited(lambda: its(values()) == (None, ["muted"]), 40, 0.05)
         checks.same(f"{what}: what the page shows then, and how many peers of the device set it", (its(values()), len(way.senders)), ((None, ["muted"]), 1))
+        share = used_by(panel, 3)
+        checks.expect(f"{what}: the panel waits between its turns then", share < 0.3, f"it uses {share:.2f} of a processor")
 
 
 def one_address(checks):
