@@ -129,12 +129,14 @@ function onKeysAndWheel(row, fader) {
   }, { passive: false });
 }
 
-// A fader shows the hand, or what was ordered and is not so yet; where the device has something else, that stands beside it.
-function drawFader(row, { fader, zero, high, low, mark }) {
+// A fader shows the hand, or what was ordered and is not so yet; where the device has something else, that stands beside it. Without a
+// value or limits it has no cap.
+function drawFader(row, { fader, cap, zero, high, low, mark }) {
   const [least, greatest] = limitsOf(row), word = goal(row), place = number => String((number - least) / (greatest - least || 1)), isAway = row.held && row.value !== row.want;
   fader.style.setProperty("--p", word === null ? "0" : place(Number(word)));
   fader.style.setProperty("--z", place(0));
-  zero.hidden = least > 0 || greatest < 0;
+  cap.hidden = word === null || !row.limits;
+  zero.hidden = cap.hidden || least > 0 || greatest < 0;
   mark.hidden = !isAway;
   if (isAway) {
     fader.style.setProperty("--d", place(Number(row.value)));
@@ -145,8 +147,8 @@ function drawFader(row, { fader, zero, high, low, mark }) {
   aria(fader, "valuenow", word ?? least);
   aria(fader, "valuetext", shown(row, word) + unitName(row));
   aria(fader, "orientation", narrow.matches ? "horizontal" : "vertical");
-  put(high, shown(row, String(greatest)));
-  put(low, shown(row, String(least)));
+  put(high, row.limits ? shown(row, String(greatest)) : "");
+  put(low, row.limits ? shown(row, String(least)) : "");
 }
 
 function level(row) {

@@ -40,7 +40,7 @@ const stateWord = linkState => STATES[linkState][1].toLowerCase();
 
 // What is said over the page where it shows nothing that is so: a heading and what to do.
 function warning(linkState) {
-  const device = program.device || "The device", old = rows.size ? "What you see is old, and nothing is sent. " : "Nothing was heard of it yet. ", waits = "This page goes on by itself.";
+  const device = program.device || "The device", old = rows.size ? "What you see is old, and no new order is taken. " : "Nothing was heard of it yet. ", waits = "This page goes on by itself.";
   switch (linkState) {
     case "shut": return ["The panel program does not let this page in.", "Open the address that ocapanel printed at its start."];
     case "stale": return ["The panel program gives no answer" + (program.heardClock ? " since " + program.heardClock : "") + ".",

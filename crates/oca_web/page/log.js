@@ -152,7 +152,7 @@ function forgetChanges() {
 }
 
 // Sets many objects, each to the word that is wanted of it, as one change. Each is ordered, whatever this page takes it to have: that
-// may be old. What is seen goes first. Taken back is later what this page knew to be different.
+// may be old. What is seen goes first. Taken back is later what this page knew to be different: so many of all, as the button says.
 function changeMany(list, wordFor, what, isUndo) {
   if (!list.length) return log(what, "nothing to do");
   const all = [...list].sort((a, b) => inView.has(b.strip) - inView.has(a.strip)), items = new Map();
@@ -164,7 +164,7 @@ function changeMany(list, wordFor, what, isUndo) {
 }
 
 function undoWords(last) {
-  if (last.gang) return "Undo " + last.gang.what + " (" + last.list.length + (last.gang.left ? ", " + last.gang.left + " to go)" : ")");
+  if (last.gang) return "Undo " + last.gang.what + " (" + last.list.length + (last.gang.all > last.list.length ? " of " + last.gang.all : "") + (last.gang.left ? ", " + last.gang.left + " to go)" : ")");
   const row = rows.get(last.list[0].ono);
   return row ? "Undo " + fullName(row) + ": back to " + shown(row, last.list[0].from) + unitName(row) : "Undo";
 }

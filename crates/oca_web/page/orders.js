@@ -199,7 +199,7 @@ function giveUpUnheard() {
 function told(one, why) {
   if (!why) return end(one, "done", "");
   if (why === "lost" || why === "no answer") return end(one, "lost", "the device gave no answer");
-  if (why === "not sent: the device changed") return end(one, "changed", why + "; this page shows what it has now");
+  if (why === "not sent: the device changed") return end(one, "changed", why + "; this page reads what it has now");
   if (/^not sent/.test(why)) return end(one, "unsent", clean(why));
   end(one, "refused", "refused: " + (why === "Locked" ? "locked by another controller" : clean(why)));
 }

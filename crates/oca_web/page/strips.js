@@ -51,6 +51,7 @@ function drawHead(strip) {
   const muted = strip.rows.filter(row => row.value === "muted");
   strip.element.classList.toggle("closed", muted.length > 0);
   strip.element.classList.toggle("doubt", muted.length > 0 && !muted.some(isSure));
+  strip.element.classList.toggle("vague", strip.rows.some(row => row.kind === "mute" && !isSure(row)));
   if (strip.menu) drawMenu(strip);
 }
 

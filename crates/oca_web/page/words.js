@@ -77,7 +77,7 @@ function typed(row, text) {
   if (!matched) return { why: "write digits, with a point before decimals, and no other unit than " + (ownUnit.name || "none") };
   const part = matched[3] || matched[4] || "", times = timesOf(matched[5], ownUnit.name);
   if (!times) return { why: "“" + clean(matched[5]) + "” is not its unit" + (ownUnit.name && ", " + ownUnit.name) };
-  if (part.length > ownUnit.places && times < 2n) return { why: ownUnit.places ? "it has " + ownUnit.places + " decimals" : "it has no decimals" };
+  if (part.length > ownUnit.places && times < 2n) return { why: ownUnit.places ? "it has " + ownUnit.places + (ownUnit.places > 1 ? " decimals" : " decimal") : "it has no decimals" };
   const top = BigInt(matched[2] + part) * times * 10n ** BigInt(ownUnit.places), below = ownUnit.times * 10n ** BigInt(part.length);
   const size = (2n * top + below) / (2n * below), amount = matched[1] === "-" ? -size : size;
   if (row.limits && (amount < BigInt(row.limits[0]) || amount > BigInt(row.limits[1]))) return { why: limitWords(row) };
